@@ -5,6 +5,7 @@ use Rattle.std.specs.List.{flat_map}
 use Rattle.std.specs.Io.KnownBytes.{Appends}
 use Rattle.std.proofs.KnownBytes.{Appends-trans}
 use Rattle.std.proofs.lemmas.Grind.{flat_map-append}
+use Rattle.rv_atomics.specs.declared.extensions.Extensions.{Extensions}
 use Rattle.counted_io.specs.declared.ReadError.{ReadError}
 use Rattle.counted_io.specs.declared.ReadError.TheVariants as read
 use Rattle.counted_io.specs.Transfers.{AppendsPrefix}
@@ -25,11 +26,11 @@ use Rattle.bsp_session.proofs.Refusals.{of_image, text_alone}
 
 -- ---- the file was not read whole
 
-pub IsErrorOfListing-reading : (float : Bool) (c : Conversion) (why : ReadError) → EndsUnread c why
-    → IsErrorOfListing float c (error_of_read why)
-IsErrorOfListing-reading float c read.TooLong ended = ended
-IsErrorOfListing-reading float c read.ReadFault ended = ended
-IsErrorOfListing-reading float c read.NoMemory ended = inl (inl ended)
+pub IsErrorOfListing-reading : (extensions : Extensions) (c : Conversion) (why : ReadError) → EndsUnread c why
+    → IsErrorOfListing extensions c (error_of_read why)
+IsErrorOfListing-reading extensions c read.TooLong ended = ended
+IsErrorOfListing-reading extensions c read.ReadFault ended = ended
+IsErrorOfListing-reading extensions c read.NoMemory ended = inl (inl ended)
 
 pub IsErrorOfAssembly-reading : (c : Conversion) (why : ReadError) → EndsUnread c why → IsErrorOfAssembly c (error_of_read why)
 IsErrorOfAssembly-reading c read.TooLong ended = ended
@@ -38,51 +39,52 @@ IsErrorOfAssembly-reading c read.NoMemory ended = inl ended
 
 -- ---- the file was read, and gives no image, or memory was refused
 
-pub IsErrorOfListing-image : (float : Bool) (c : Conversion) (i : List ℕ) (e : SessionError) → ReadsWhole c.file i (most_bytes c.format)
-    → (e ≢ NoMemory → image_fault c.format i ≡ Some e) → IsUntouched c.out → IsErrorOfListing float c e
-IsErrorOfListing-image float c i e whole made untouched =
-    of_image c.format i (IsErrorOfListing float c) (inl (inr (record { i = i; read = whole; unwritten = untouched })))
+pub IsErrorOfListing-image : (extensions : Extensions) (c : Conversion) (i : List ℕ) (e : SessionError)
+    → ReadsWhole c.file i (most_bytes c.format)
+    → (e ≢ NoMemory → image_fault c.format i ≡ Some e) → IsUntouched c.out → IsErrorOfListing extensions c e
+IsErrorOfListing-image extensions c i e whole made untouched =
+    of_image c.format i (IsErrorOfListing extensions c) (inl (inr (record { i = i; read = whole; unwritten = untouched })))
     (λ cause is. record { i = i; read = whole; refused = is; unwritten = untouched })
     (λ cause is. record { i = i; read = whole; refused = is; unwritten = untouched }) e made
 
-pub IsErrorOfAssembly-image : (float : Bool) (c : Conversion) (i : List ℕ) (e : SessionError) → c.format ≡ Asm float
+pub IsErrorOfAssembly-image : (extensions : Extensions) (c : Conversion) (i : List ℕ) (e : SessionError) → c.format ≡ Asm extensions
     → ReadsWhole c.file i (most_bytes c.format)
     → (e ≢ NoMemory → image_fault c.format i ≡ Some e) → IsUntouched c.out → IsErrorOfAssembly c e
-IsErrorOfAssembly-image float c i e text whole made untouched =
+IsErrorOfAssembly-image extensions c i e text whole made untouched =
     of_image c.format i (IsErrorOfAssembly c) (inr (record { i = i; read = whole; unwritten = untouched }))
     (λ cause is. record { i = i; read = whole; refused = is; unwritten = untouched })
-    (λ cause is. absurd (text_alone float i cause (subst (λ f. image_fault f i ≡ Some (BadImage cause)) text is))) e made
+    (λ cause is. absurd (text_alone extensions i cause (subst (λ f. image_fault f i ≡ Some (BadImage cause)) text is))) e made
 
 -- ---- lines that were not all written
 
 -- the texts of lines of lines, one after another
-texts-flat : (float : Bool) {X : Type 0} (lines : X → List Line) (xs : List X)
-    → flat_map (ended_line float) (flat_map lines xs) ≡ flat_map (λ x. flat_map (ended_line float) (lines x)) xs
-texts-flat float lines [] = refl
-texts-flat float lines (x ∷ xs) =
-    flat_map-append (ended_line float) (lines x) (flat_map lines xs)
-    ∙ ap (λ rest. flat_map (ended_line float) (lines x) ++ rest) (texts-flat float lines xs)
+texts-flat : (extensions : Extensions) {X : Type 0} (lines : X → List Line) (xs : List X)
+    → flat_map (ended_line extensions) (flat_map lines xs) ≡ flat_map (λ x. flat_map (ended_line extensions) (lines x)) xs
+texts-flat extensions lines [] = refl
+texts-flat extensions lines (x ∷ xs) =
+    flat_map-append (ended_line extensions) (lines x) (flat_map lines xs)
+    ∙ ap (λ rest. flat_map (ended_line extensions) (lines x) ++ rest) (texts-flat extensions lines xs)
 
 -- the text of lines in three parts
-pub texts-parted : (float : Bool) (all first mid last : List Line) → all ≡ first ++ (mid ++ last)
-    → flat_map (ended_line float) all ≡ flat_map (ended_line float) first
-    ++ (flat_map (ended_line float) mid ++ flat_map (ended_line float) last)
-texts-parted float all first mid last is =
-    ap (flat_map (ended_line float)) is ∙ flat_map-append (ended_line float) first (mid ++ last)
-    ∙ ap (λ bs. flat_map (ended_line float) first ++ bs) (flat_map-append (ended_line float) mid last)
+pub texts-parted : (extensions : Extensions) (all first mid last : List Line) → all ≡ first ++ (mid ++ last)
+    → flat_map (ended_line extensions) all ≡ flat_map (ended_line extensions) first
+    ++ (flat_map (ended_line extensions) mid ++ flat_map (ended_line extensions) last)
+texts-parted extensions all first mid last is =
+    ap (flat_map (ended_line extensions)) is ∙ flat_map-append (ended_line extensions) first (mid ++ last)
+    ∙ ap (λ bs. flat_map (ended_line extensions) first ++ bs) (flat_map-append (ended_line extensions) mid last)
 
 -- an image's listing has the texts of its lines
-pub listing-lines : (float : Bool) (m : Image) → flat_map (ended_line float) (lines_of_image m) ≡ listing_of float m
-listing-lines float m = texts-flat float lines_of_segment m.segments
+pub listing-lines : (extensions : Extensions) (m : Image) → flat_map (ended_line extensions) (lines_of_image m) ≡ listing_of extensions m
+listing-lines extensions m = texts-flat extensions lines_of_segment m.segments
 
 -- the lines of some segments, and some first ones of the next
-first_lines : (float : Bool) (segments : List Segment) (place : ℕ) (segment : Segment) (start mid end : Option (List ℕ))
+first_lines : (extensions : Extensions) (segments : List Segment) (place : ℕ) (segment : Segment) (start mid end : Option (List ℕ))
     → place < length segments
     → segment ≡ get_or segments place segment
-    → Appends start mid (flat_map (listing_of_segment float) (take place segments))
-    → AppendsFirstLines float mid end (lines_of_segment segment)
-    → AppendsFirstLines float start end (flat_map lines_of_segment segments)
-first_lines float segments place segment start mid end within is before p =
+    → Appends start mid (flat_map (listing_of_segment extensions) (take place segments))
+    → AppendsFirstLines extensions mid end (lines_of_segment segment)
+    → AppendsFirstLines extensions start end (flat_map lines_of_segment segments)
+first_lines extensions segments place segment start mid end within is before p =
     let done = flat_map lines_of_segment (take place segments) in
     let behind = flat_map lines_of_segment (drop (suc place) segments) in
     record {
@@ -92,45 +94,57 @@ first_lines float segments place segment start mid end within is before p =
           ∙ ap (λ ls. done ++ ls) (append_assoc p.first p.rest behind) ∙ sym (append_assoc done p.first (p.rest ++ behind));
       some_left = omega (arith, p.some_left, length-append p.rest behind);
       written = subst (Appends start end)
-          (sym (flat_map-append (ended_line float) done p.first
-          ∙ ap (λ bs. bs ++ flat_map (ended_line float) p.first) (texts-flat float lines_of_segment (take place segments))))
+          (sym (flat_map-append (ended_line extensions) done p.first
+          ∙ ap (λ bs. bs ++ flat_map (ended_line extensions) p.first) (texts-flat extensions lines_of_segment (take place segments))))
           (Appends-trans start mid end _ _ before p.written);
     }
 
 -- an error of a segment's lines, after those of the segments before it
-pub IsErrorOfLines-at : (float : Bool) (image : Image) (segments : List Segment) (place : ℕ) (segment : Segment) (out next : Stream)
+pub IsErrorOfLines-at : (extensions : Extensions) (image : Image) (segments : List Segment) (place : ℕ) (segment : Segment)
+    (out next : Stream)
     (e : SessionError)
     → segments ≡ image.segments
     → place < length segments → segment ≡ get_or segments place segment → out.after ≡ next.after → out.failures_after ≡ next.failures_after
     → out.failures_before ≤ next.failures_before
-    → Appends out.before next.before (flat_map (listing_of_segment float) (take place segments))
-    → IsErrorOfLines float next (lines_of_segment segment) e
-    → IsErrorOfLines float out (lines_of_image image) e
-IsErrorOfLines-at float image segments place segment out next WriteFault all within is same count rises before (some, failed) = (
-  rw (same, ap (λ i. flat_map (ended_line float) (flat_map lines_of_segment i)) (sym all), texts-flat float lines_of_segment segments)
-      (AppendsPrefix-at (listing_of_segment float) segments place segment out.before next.before next.after within is before some),
+    → Appends out.before next.before (flat_map (listing_of_segment extensions) (take place segments))
+    → IsErrorOfLines extensions next (lines_of_segment segment) e
+    → IsErrorOfLines extensions out (lines_of_image image) e
+IsErrorOfLines-at extensions image segments place segment out next WriteFault all within is same count rises before (some, failed) = (
+  rw (
+    same,
+    ap (λ i. flat_map (ended_line extensions) (flat_map lines_of_segment i))
+        (sym all),
+    texts-flat extensions lines_of_segment segments,
+  )
+      (AppendsPrefix-at (listing_of_segment extensions) segments place segment out.before next.before next.after within is before some),
   rw count (HasRisen-above _ _ _ rises failed),
 )
-IsErrorOfLines-at float image segments place segment out next NoMemory all within is same count rises before first =
-    rw (same, sym all) (first_lines float segments place segment out.before next.before next.after within is before first)
-IsErrorOfLines-at float image segments place segment out next (BadSettings cause) all within is same count rises before p = absurd p
-IsErrorOfLines-at float image segments place segment out next TooLong all within is same count rises before p = absurd p
-IsErrorOfLines-at float image segments place segment out next (Text cause) all within is same count rises before p = absurd p
-IsErrorOfLines-at float image segments place segment out next (BadImage cause) all within is same count rises before p = absurd p
-IsErrorOfLines-at float image segments place segment out next SegmentOutside all within is same count rises before p = absurd p
-IsErrorOfLines-at float image segments place segment out next ReadFault all within is same count rises before p = absurd p
-IsErrorOfLines-at float image segments place segment out next NoWorker all within is same count rises before p = absurd p
+IsErrorOfLines-at extensions image segments place segment out next NoMemory all within is same count rises before first =
+    rw (same, sym all) (first_lines extensions segments place segment out.before next.before next.after within is before first)
+IsErrorOfLines-at extensions image segments place segment out next (BadSettings cause) all within is same count rises before p = absurd p
+IsErrorOfLines-at extensions image segments place segment out next TooLong all within is same count rises before p = absurd p
+IsErrorOfLines-at extensions image segments place segment out next (Text cause) all within is same count rises before p = absurd p
+IsErrorOfLines-at extensions image segments place segment out next (BadImage cause) all within is same count rises before p = absurd p
+IsErrorOfLines-at extensions image segments place segment out next SegmentOutside all within is same count rises before p = absurd p
+IsErrorOfLines-at extensions image segments place segment out next ReadFault all within is same count rises before p = absurd p
+IsErrorOfLines-at extensions image segments place segment out next NoWorker all within is same count rises before p = absurd p
 
 -- an error of an image's lines is one of the listing
-pub IsErrorOfListing-lines : (float : Bool) (c : Conversion) (m : Image) (e : SessionError) → ReadsImage c m
-    → IsErrorOfLines float c.out (lines_of_image m) e → IsErrorOfListing float c e
-IsErrorOfListing-lines float c m WriteFault given (some, failed) =
-    record { m = m; given = given; written = subst (AppendsPrefix c.out.before c.out.after) (listing-lines float m) some; failed = failed }
-IsErrorOfListing-lines float c m NoMemory given p = inr (record { m = m; given = given; written = p })
-IsErrorOfListing-lines float c m (BadSettings cause) given p = absurd p
-IsErrorOfListing-lines float c m TooLong given p = absurd p
-IsErrorOfListing-lines float c m (Text cause) given p = absurd p
-IsErrorOfListing-lines float c m (BadImage cause) given p = absurd p
-IsErrorOfListing-lines float c m SegmentOutside given p = absurd p
-IsErrorOfListing-lines float c m ReadFault given p = absurd p
-IsErrorOfListing-lines float c m NoWorker given p = absurd p
+pub IsErrorOfListing-lines : (extensions : Extensions) (c : Conversion) (m : Image) (e : SessionError) → ReadsImage c m
+    → IsErrorOfLines extensions c.out (lines_of_image m) e → IsErrorOfListing extensions c e
+IsErrorOfListing-lines extensions c m WriteFault given (some, failed) =
+    record {
+      m = m;
+      given = given;
+      written = subst (AppendsPrefix c.out.before c.out.after)
+          (listing-lines extensions m) some;
+      failed = failed;
+    }
+IsErrorOfListing-lines extensions c m NoMemory given p = inr (record { m = m; given = given; written = p })
+IsErrorOfListing-lines extensions c m (BadSettings cause) given p = absurd p
+IsErrorOfListing-lines extensions c m TooLong given p = absurd p
+IsErrorOfListing-lines extensions c m (Text cause) given p = absurd p
+IsErrorOfListing-lines extensions c m (BadImage cause) given p = absurd p
+IsErrorOfListing-lines extensions c m SegmentOutside given p = absurd p
+IsErrorOfListing-lines extensions c m ReadFault given p = absurd p
+IsErrorOfListing-lines extensions c m NoWorker given p = absurd p

@@ -1,6 +1,7 @@
 -- Why a file gives no image, or its image no machine.
 use Rattle.std.proofs.Common.{◌≡◌, ◌≢◌, ℕ, List, Bool, true, false, Option, Some, None, option_map, Result, Err, if◌then◌else◌, refl, subst}
 use Rattle.std.specs.Option.{option_or}
+use Rattle.rv_atomics.specs.declared.extensions.Extensions.{Extensions}
 use Rattle.node_memory.specs.Image.{Image, is_segment_outside}
 use Rattle.elf_image.specs.declared.error.ElfError.{ElfError}
 use Rattle.elf_image.specs.Faults.{file_fault}
@@ -38,8 +39,8 @@ of_file f (Some x) e each is =
 is_of_file : (format : Format) (file : List ℕ) (e : SessionError) → image_fault format file ≡ Some e → IsOfFile e
 is_of_file (Elf large) file e is = of_file BadImage (file_fault large file) e (λ cause. tt) is
 is_of_file (Raw large) file e is = cc
-is_of_file (Asm float) file e is =
-    of_file (λ fault. Text (record { line = fault.0; kind = fault.1 })) (text_fault float file) e (λ fault. tt) is
+is_of_file (Asm extensions) file e is =
+    of_file (λ fault. Text (record { line = fault.0; kind = fault.1 })) (text_fault extensions file) e (λ fault. tt) is
 
 -- what holds of want of memory, and of a text's or an ELF file's refusal, holds of each error of an image
 pub of_image : (format : Format) (file : List ℕ) (P : SessionError → Type 0) → P NoMemory
@@ -57,8 +58,9 @@ of_image format file P memory text image WriteFault made = absurd (is_of_file fo
 of_image format file P memory text image NoWorker made = absurd (is_of_file format file NoWorker (made (λ is. cc)))
 
 -- no text is refused as an ELF file
-pub text_alone : (float : Bool) (file : List ℕ) (cause : ElfError) → image_fault (Asm float) file ≡ Some (BadImage cause) → ⊥
-text_alone float file cause is = not_image (text_fault float file) is
+pub text_alone : (extensions : Extensions) (file : List ℕ) (cause : ElfError)
+    → image_fault (Asm extensions) file ≡ Some (BadImage cause) → ⊥
+text_alone extensions file cause is = not_image (text_fault extensions file) is
   where
     not_image : (fault : Option (ℕ × AsmKind)) → option_map (λ f. Text (record { line = f.0; kind = f.1 })) fault ≡ Some (BadImage cause)
         → ⊥

@@ -3,6 +3,7 @@
 use Rattle.std.specs.Prelude.{◌≡◌, ◌<◌, ◌⊎◌, Bool, List, ◌++◌, ℕ, length, Option, Some}
 use Rattle.std.specs.List.{flat_map}
 use Rattle.std.specs.Io.KnownBytes.{Appends}
+use Rattle.rv_atomics.specs.declared.extensions.Extensions.{Extensions}
 use Rattle.counted_io.specs.Transfers.{AppendsPrefix}
 use Rattle.counted_io.specs.declared.ReadError.{ReadError}
 use Rattle.counted_io.specs.declared.ReadError.TheVariants as read
@@ -38,8 +39,8 @@ pub record WritesWhole (written_of : Image → List ℕ) (c : Conversion) : Type
   pub written : Appends c.out.before c.out.after (written_of m)
 
 -- an answer of a listing, with the names of instructions of floating point or without them, and one of an assembly
-abbrev pub AnswersListing : (float : Bool) → Conversion → Type 0
-AnswersListing float c = WritesWhole (listing_of float) c
+abbrev pub AnswersListing : (extensions : Extensions) → Conversion → Type 0
+AnswersListing extensions c = WritesWhole (listing_of extensions) c
 
 abbrev pub AnswersAssembly : Conversion → Type 0
 AnswersAssembly c = WritesWhole spelling_of c
@@ -52,12 +53,12 @@ pub record WritesPart (written_of : Image → List ℕ) (c : Conversion) : Type 
   pub failed : HasFailed c.out
 
 -- some first lines are appended to known bytes, and not all of them
-pub record AppendsFirstLines (float : Bool) (old new : Option (List ℕ)) (lines : List Line) : Type 0 where
+pub record AppendsFirstLines (extensions : Extensions) (old new : Option (List ℕ)) (lines : List Line) : Type 0 where
   pub first : List Line
   pub rest : List Line
   pub split : lines ≡ first ++ rest
   pub some_left : 0 < length rest
-  pub written : Appends old new (flat_map (ended_line float) first)
+  pub written : Appends old new (flat_map (ended_line extensions) first)
 
 -- the lines of a segment's listing, and those of an image's, segment by segment
 abbrev pub lines_of_segment : Segment → List Line
@@ -68,16 +69,16 @@ lines_of_image m = flat_map lines_of_segment m.segments
 
 -- what is known of a writer where lines were not all written: it failed after some first bytes of them, or memory was refused after
 -- some first lines, each whole
-abbrev pub IsErrorOfLines : (float : Bool) → Stream → List Line → SessionError → Type 0
-IsErrorOfLines float out lines WriteFault = AppendsPrefix out.before out.after (flat_map (ended_line float) lines) × HasFailed out
-IsErrorOfLines float out lines NoMemory = AppendsFirstLines float out.before out.after lines
-IsErrorOfLines float out lines _ = ⊥
+abbrev pub IsErrorOfLines : (extensions : Extensions) → Stream → List Line → SessionError → Type 0
+IsErrorOfLines extensions out lines WriteFault = AppendsPrefix out.before out.after (flat_map (ended_line extensions) lines) × HasFailed out
+IsErrorOfLines extensions out lines NoMemory = AppendsFirstLines extensions out.before out.after lines
+IsErrorOfLines extensions out lines _ = ⊥
 
 -- some first lines of the image's listing were written, each whole, and not all of them
-pub record ListsFirstLines (float : Bool) (c : Conversion) : Type 0 where
+pub record ListsFirstLines (extensions : Extensions) (c : Conversion) : Type 0 where
   pub m : Image
   pub given : ReadsImage c m
-  pub written : AppendsFirstLines float c.out.before c.out.after (lines_of_image m)
+  pub written : AppendsFirstLines extensions c.out.before c.out.after (lines_of_image m)
 
 -- the file was not read whole, for this, and nothing was written
 pub record EndsUnread (c : Conversion) (why : ReadError) : Type 0 where
@@ -102,14 +103,14 @@ abbrev pub LacksMemory : Conversion → Type 0
 LacksMemory c = EndsUnread c read.NoMemory ⊎ EndsUnwritten c
 
 -- what is known where a listing ended by an error. There are no settings, no memory that an image could reach past, and no workers
-abbrev pub IsErrorOfListing : (float : Bool) → Conversion → SessionError → Type 0
-IsErrorOfListing float c TooLong = EndsUnread c read.TooLong
-IsErrorOfListing float c (Text cause) = IsRefused c (Text cause)
-IsErrorOfListing float c (BadImage cause) = IsRefused c (BadImage cause)
-IsErrorOfListing float c ReadFault = EndsUnread c read.ReadFault
-IsErrorOfListing float c WriteFault = WritesPart (listing_of float) c
-IsErrorOfListing float c NoMemory = LacksMemory c ⊎ ListsFirstLines float c
-IsErrorOfListing float c _ = ⊥
+abbrev pub IsErrorOfListing : (extensions : Extensions) → Conversion → SessionError → Type 0
+IsErrorOfListing extensions c TooLong = EndsUnread c read.TooLong
+IsErrorOfListing extensions c (Text cause) = IsRefused c (Text cause)
+IsErrorOfListing extensions c (BadImage cause) = IsRefused c (BadImage cause)
+IsErrorOfListing extensions c ReadFault = EndsUnread c read.ReadFault
+IsErrorOfListing extensions c WriteFault = WritesPart (listing_of extensions) c
+IsErrorOfListing extensions c NoMemory = LacksMemory c ⊎ ListsFirstLines extensions c
+IsErrorOfListing extensions c _ = ⊥
 
 -- what is known where an assembly ended by an error. What it reads is a text, so it is refused as no other file
 abbrev pub IsErrorOfAssembly : Conversion → SessionError → Type 0

@@ -1,6 +1,7 @@
 pub mod Contested
 pub mod Conversion
 pub mod Counts
+pub mod Exposed
 pub mod Images
 pub mod Live
 pub mod Outcome

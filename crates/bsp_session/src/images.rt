@@ -24,6 +24,6 @@ pub fn image_of<A: Allocator + Copy>(
     match format {
         Format::Elf { large } => Ok(load(alloc, bytes, large)?),
         Format::Raw { .. } => Ok(raw(alloc, bytes)?),
-        Format::Asm { float } => Ok(assemble(alloc, float, bytes)?),
+        Format::Asm { extensions } => Ok(assemble(alloc, extensions, bytes)?),
     }
 }

@@ -2,6 +2,7 @@
 
 use cost_ledger::LedgerText;
 use machine_core::Settings;
+use rv_atomics::Extensions;
 
 /// The most bytes of an ELF file or a raw file for a large machine.
 const LARGE_BYTES: usize = 1 << 28;
@@ -13,8 +14,8 @@ pub enum Format {
     Elf { large: bool },
     /// The bytes are the memory's, from address 0 on, and pc starts there; there are at most 2^24 of them, or 2^28 for a large machine.
     Raw { large: bool },
-    /// A text in assembly language, with statements of floating point where `float` says so; at most 2^22 bytes.
-    Asm { float: bool },
+    /// A text in assembly language with the statements of some extensions; at most 2^22 bytes.
+    Asm { extensions: Extensions },
 }
 
 impl Format {

@@ -1,8 +1,9 @@
 //! Laws of what is written superstep by superstep, each the contract of a function that does nothing.
 
-ghost use Rattle.std.specs.Prelude.{◌≡◌, ℕ, ◌+◌, ◌^◌, ◌++◌, Bool, List, false, flat_map};
+ghost use Rattle.std.specs.Prelude.{◌≡◌, ℕ, ◌+◌, ◌^◌, ◌++◌, List, false, flat_map};
 ghost use Rattle.std.specs.Fn.{iterate};
 ghost use Rattle.std.specs.List.{range_with_len};
+ghost use Rattle.rv_atomics.specs.declared.extensions.Extensions.{Extensions};
 ghost use Rattle.machine_core.specs.Machine.{MachineState};
 ghost use Rattle.machine_core.specs.Sound.{IsSoundMachine};
 ghost use Rattle.machine_core.specs.Turn.{end_of, superstep};
@@ -35,5 +36,5 @@ pub fn a_session_reads_these_bytes_unless_the_machine_is_large()
     ensures input { most_input false ≡ 2 ^ 24 }
     ensures elf { most_bytes (Elf false) ≡ 2 ^ 25 }
     ensures raw { most_bytes (Raw false) ≡ 2 ^ 24 }
-    ensures text { (float : Bool) → most_bytes (Asm float) ≡ 2 ^ 22 }
+    ensures text { (extensions : Extensions) → most_bytes (Asm extensions) ≡ 2 ^ 22 }
 {}

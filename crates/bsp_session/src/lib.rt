@@ -25,7 +25,8 @@
 //! - A run with a profile ([`profile_session`]) has the same report and the same errors. The profile is that of the run from its start,
 //!   whole before anything is written; it is written after the report. Only a fault of its own writer leaves a part of it.
 //! - So has a run with counts ([`counts_session`]), which makes all steps in one thread.
-//! - So has a run that tells what is contested ([`contested_session`]).
+//! - So has a run that tells what is contested ([`contested_session`]), and one that tells what its calls expose ([`exposed_session`]), in one
+//!   thread.
 //! - A run that is told live ([`live_session`]) has the same report, and writes it while it goes on: once a superstep is over, what the
 //!   nodes wrote in it. Errors that come before its run leave the writer as it was. Where the run is refused memory or a thread, what
 //!   stands written is the output of the supersteps that were over, whole; [`laws`] tie it to the output at the end. After a fault of the
@@ -45,6 +46,7 @@
 mod contested;
 mod counts;
 mod errors;
+mod exposed;
 mod images;
 mod job;
 pub mod laws;
@@ -60,6 +62,7 @@ pub use contested::contested_session;
 pub use cost_ledger::LedgerText;
 pub use counts::counts_session;
 pub use errors::{BadSetting, SessionError, status};
+pub use exposed::exposed_session;
 pub use images::image_of;
 pub use job::{Format, Job};
 pub use listing::{asm_session, list_session};

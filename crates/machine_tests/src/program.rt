@@ -3,6 +3,7 @@
 use failing_allocator::FailingAllocator;
 use machine_core::{Machine, Settings};
 use rv_asm::assemble;
+use rv_atomics::Extensions;
 use std::alloc::{Allocator, Global};
 
 /// The memory of what is refused.
@@ -63,7 +64,14 @@ kinds:  .byte 1, 2
         beq  x0, x0, kinds
         li   a0, -2049
         fadd.d fa0, fa1, fa2
+        amoadd.w a0, a1, (a2)
 ";
+
+/// The language of the program.
+pub const LANGUAGE: Extensions = Extensions {
+    float: true,
+    atomic: true,
+};
 
 /// Each rank aborts with a message.
 pub const ABORTS: &str = "li a0, 0\nli a1, 4\nli a7, 16\necall\n";
@@ -95,7 +103,7 @@ pub fn machine<A: Allocator + Copy>(
     if text.len() > 0x1000 {
         return None;
     }
-    let Ok(image) = assemble(alloc, true, text.as_bytes()) else {
+    let Ok(image) = assemble(alloc, LANGUAGE, text.as_bytes()) else {
         return None;
     };
     let Ok(input) = Vec::from_slice(alloc, INPUT) else {

@@ -1,6 +1,6 @@
 //! Readers that fail in the middle of what they give.
 
-use crate::program::INPUT;
+use crate::program::{INPUT, LANGUAGE};
 use crate::sessions::{Done, Kind, Readers, make};
 use bsp_session::{Format, SessionError};
 use std::alloc::Global;
@@ -62,7 +62,9 @@ fn cut(source: Source, given: usize) -> Source {
 
 // What comes of a session over sources.
 fn done<T: Threads + Wait + Sync>(rt: &T, alloc: Global, kind: Kind, sources: Sources) -> Done {
-    let format = Format::Asm { float: false };
+    let format = Format::Asm {
+        extensions: LANGUAGE,
+    };
     make(rt, alloc, alloc, kind, format, sources)
 }
 
@@ -113,6 +115,7 @@ fn one_reader_that_fails_is_a_read_fault(rt: HostRuntime) {
         (Kind::Profiles, true),
         (Kind::Counts, true),
         (Kind::Contests, true),
+        (Kind::Exposes, true),
         (Kind::Lists, false),
         (Kind::Saves, false),
         (Kind::Debugs, true),

@@ -1,10 +1,10 @@
 //! The sessions, each of which is refused each of its requests for memory.
 
-use crate::program::{Heap, INPUT, SETTINGS, TEXT};
+use crate::program::{Heap, INPUT, LANGUAGE, SETTINGS, TEXT};
 use bsp_console::{debug_dialogue, debug_framed, debug_session};
 use bsp_session::{
     Format, Job, LedgerText, SessionError, asm_session, contested_session, counts_session,
-    list_session, live_session, profile_session, session,
+    exposed_session, list_session, live_session, profile_session, session,
 };
 use counted_io::Counted;
 use machine_core::{Outcome, Settings};
@@ -23,6 +23,7 @@ pub enum Kind {
     Profiles,
     Counts,
     Contests,
+    Exposes,
     Lists,
     Saves,
     /// The debugger, over a script.
@@ -33,7 +34,7 @@ pub enum Kind {
     Frames,
 }
 
-use Kind::{Contests, Counts, Debugs, Frames, Lists, Profiles, Runs, Saves, Talks, Tells};
+use Kind::{Contests, Counts, Debugs, Exposes, Frames, Lists, Profiles, Runs, Saves, Talks, Tells};
 
 /// What a session reads.
 #[derive(Drop)]
@@ -122,7 +123,7 @@ where
 {
     match kind {
         Runs | Tells => run(rt, alloc, kind, job, streams),
-        Profiles | Counts | Contests => run_beside(rt, alloc, kind, job, streams),
+        Profiles | Counts | Contests | Exposes => run_beside(rt, alloc, kind, job, streams),
         Lists | Saves => convert(alloc, kind, job.format, streams),
         Debugs | Talks | Frames => debug(alloc, kind, job, streams),
     }
@@ -173,6 +174,7 @@ where
     without_outcome(match kind {
         Profiles => profile_session(rt, alloc, image, input, job, out, beside),
         Counts => counts_session(alloc, image, input, job, out, beside),
+        Exposes => exposed_session(alloc, image, input, job, out, beside),
         _ => contested_session(rt, alloc, image, input, job, out, beside),
     })
 }
@@ -184,9 +186,15 @@ fn convert<A: Allocator + Copy, R: Read>(
     streams: &mut Streams<R>,
 ) -> Result<(), SessionError> {
     if kind == Lists {
-        list_session(alloc, format, true, &mut streams.image, &mut streams.out)
+        list_session(
+            alloc,
+            format,
+            LANGUAGE,
+            &mut streams.image,
+            &mut streams.out,
+        )
     } else {
-        asm_session(alloc, true, &mut streams.image, &mut streams.out)
+        asm_session(alloc, LANGUAGE, &mut streams.image, &mut streams.out)
     }
 }
 
@@ -399,12 +407,14 @@ struct Row {
     requests: u64,
 }
 
-static ROWS: [Row; 10] = [
+static ROWS: [Row; 11] = [
     Row {
         name: "asm_session",
         kind: Saves,
-        format: Format::Asm { float: false },
-        requests: 520,
+        format: Format::Asm {
+            extensions: LANGUAGE,
+        },
+        requests: 526,
     },
     Row {
         name: "list_session",
@@ -441,6 +451,12 @@ static ROWS: [Row; 10] = [
         kind: Contests,
         format: Format::Raw { large: false },
         requests: 119,
+    },
+    Row {
+        name: "exposed_session",
+        kind: Exposes,
+        format: Format::Raw { large: false },
+        requests: 126,
     },
     Row {
         name: "debug_session",
@@ -514,7 +530,7 @@ impl Done {
         let out = self.out.as_slice();
         self.answer == Ok(())
             && match kind {
-                Runs | Tells | Profiles | Counts | Contests => out == REPORT.as_bytes(),
+                Runs | Tells | Profiles | Counts | Contests | Exposes => out == REPORT.as_bytes(),
                 Talks => out.ends_with(TALK_REPLIES.as_bytes()),
                 Frames => out == FRAMED_REPLIES.as_bytes(),
                 Lists | Saves | Debugs => true,
@@ -529,7 +545,7 @@ fn may_begin(out: &[u8], whole: &[u8], kind: Kind) -> bool {
         Lists | Debugs | Talks | Frames => {
             out.is_empty() || whole.starts_with(out) && out.ends_with(b"\n")
         }
-        Runs | Profiles | Counts | Contests | Saves => out.is_empty(),
+        Runs | Profiles | Counts | Contests | Exposes | Saves => out.is_empty(),
     }
 }
 

@@ -11,7 +11,7 @@ most_of (Elf true) = omega arith
 most_of (Elf false) = omega arith
 most_of (Raw true) = omega arith
 most_of (Raw false) = omega arith
-most_of (Asm float) = omega arith
+most_of (Asm extensions) = omega arith
 
 pub load-requires : goal.load-requires
 load-requires g c = omega (arith, c.requires, most_of c.args.format)

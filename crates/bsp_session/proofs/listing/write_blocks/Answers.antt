@@ -5,6 +5,7 @@ use Rattle.std.specs.List.{flat_map}
 use Rattle.std.proofs.KnownBytes.{Appends-trans, Appends-nil}
 use Rattle.std.proofs.lemmas.Grind.{flat_map-append}
 use Rattle.std.proofs.lemmas.Result.{err_from_is_err_and}
+use Rattle.rv_atomics.specs.declared.extensions.Extensions.{Extensions}
 use Rattle.rv_listing.specs.declared.lines.Line.{Line}
 use Rattle.rv_listing.specs.Listing.{ended_line}
 use Rattle.bsp_session.specs.Conversion.{lines_of_segment}
@@ -19,13 +20,14 @@ moved all done waiting line left next is begins =
     is ∙ ap (λ ls. done ++ ls) (ap (λ ls. waiting ++ ls) begins ∙ sym (append_assoc waiting (line ∷ []) next))
 
 -- its text goes to the end of the block
-grown : (float : Bool) (waiting : List Line) (line : Line) (block new : List ℕ) → block ≡ flat_map (ended_line float) waiting
-    → new ≡ block ++ ended_line float line
-    → new ≡ flat_map (ended_line float) (waiting ++ line ∷ [])
-grown float waiting line block new is more =
-    more ∙ ap (λ bs. bs ++ ended_line float line) is
-    ∙ ap (λ bs. flat_map (ended_line float) waiting ++ bs) (sym (append-nil (ended_line float line)))
-    ∙ sym (flat_map-append (ended_line float) waiting (line ∷ []))
+grown : (extensions : Extensions) (waiting : List Line) (line : Line) (block new : List ℕ)
+    → block ≡ flat_map (ended_line extensions) waiting
+    → new ≡ block ++ ended_line extensions line
+    → new ≡ flat_map (ended_line extensions) (waiting ++ line ∷ [])
+grown extensions waiting line block new is more =
+    more ∙ ap (λ bs. bs ++ ended_line extensions line) is
+    ∙ ap (λ bs. flat_map (ended_line extensions) waiting ++ bs) (sym (append-nil (ended_line extensions line)))
+    ∙ sym (flat_map-append (ended_line extensions) waiting (line ∷ []))
 
 -- some line is left
 some_left : (waiting : List Line) (line : Line) (left next : List Line) → left ≡ line ∷ next → 0 < length (waiting ++ left)
@@ -54,14 +56,14 @@ returns-in_err-write_whole-clause-err g c =
     let p = err_from_is_err_and c.from_residual-in_err-write_whole.result c.from_residual-in_err-write_whole.ensures.1 in
     let (done, waiting, is, appended, block) = c.loop-line.invariant.written in
     let more = waiting ++ c.in-Some.line ∷ [] in
-    let whole = texts-parted c.args.float (lines_of_segment c.args.segment.now) done more c.next.new.self
+    let whole = texts-parted c.args.extensions (lines_of_segment c.args.segment.now) done more c.next.new.self
     (moved _ done waiting c.in-Some.line c.loop-line.line-iterator c.next.new.self is c.in-Some.ensures.steps) in
     rw (p.1, p.2) (
-      AppendsPrefix-behind (flat_map (ended_line c.args.float) done) (flat_map (ended_line c.args.float) more)
-          (flat_map (ended_line c.args.float) c.next.new.self) _ _ _ _ whole appended
+      AppendsPrefix-behind (flat_map (ended_line c.args.extensions) done) (flat_map (ended_line c.args.extensions) more)
+          (flat_map (ended_line c.args.extensions) c.next.new.self) _ _ _ _ whole appended
           (rw (
             c.as_bytes.ensures.value,
-            grown c.args.float waiting c.in-Some.line (string_bytes c.loop-line.block)
+            grown c.args.extensions waiting c.in-Some.line (string_bytes c.loop-line.block)
                 (string_bytes c.writeln.new.self) block c.in_ok-writeln.ensures.bytes,
           )
           at c.in_err-write_whole.ensures.err),
@@ -72,7 +74,7 @@ pub loop-line-preserved-then-len-ge-BLOCK : goal.loop-line-preserved-then-len-ge
 loop-line-preserved-then-len-ge-BLOCK g c =
     let (done, waiting, is, appended, block) = c.loop-line.invariant.written in
     let more = waiting ++ c.in-Some.line ∷ [] in
-    let text = grown c.args.float waiting c.in-Some.line (string_bytes c.loop-line.block) (string_bytes c.writeln.new.self) block
+    let text = grown c.args.extensions waiting c.in-Some.line (string_bytes c.loop-line.block) (string_bytes c.writeln.new.self) block
     c.in_ok-writeln.ensures.bytes in
     record {
       written = (
@@ -80,7 +82,7 @@ loop-line-preserved-then-len-ge-BLOCK g c =
         [],
         moved _ done waiting c.in-Some.line c.loop-line.line-iterator c.next.new.self is c.in-Some.ensures.steps
             ∙ sym (append_assoc done more c.next.new.self),
-        rw (flat_map-append (ended_line c.args.float) done more)
+        rw (flat_map-append (ended_line c.args.extensions) done more)
             (Appends-trans _ _ _ _ _ appended (rw (c.as_bytes.ensures.value, text) at c.in_ok-write_whole.ensures.ok)),
         c.clear.ensures.bytes,
       );
@@ -96,7 +98,7 @@ loop-line-preserved g c =
         waiting ++ c.in-Some.line ∷ [],
         moved _ done waiting c.in-Some.line c.loop-line.line-iterator c.next.new.self is c.in-Some.ensures.steps,
         appended,
-        grown c.args.float waiting c.in-Some.line (string_bytes c.loop-line.block) (string_bytes c.writeln.new.self) block
+        grown c.args.extensions waiting c.in-Some.line (string_bytes c.loop-line.block) (string_bytes c.writeln.new.self) block
             c.in_ok-writeln.ensures.bytes,
       );
       rises = c.loop-line.invariant.rises;

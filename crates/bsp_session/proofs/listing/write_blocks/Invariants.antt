@@ -10,7 +10,7 @@ use Rattle.bsp_session.proofs.listing.write_blocks.Given as goal
 abbrev pub invariant-loop-line : goal.invariant-loop-line
 invariant-loop-line g l = record {
   written : (done waiting : List Line) × (lines_of_segment l.segment ≡ done ++ (waiting ++ l.line-iterator))
-      × Appends (g.W.Write.contents l.initial.out.inner) (g.W.Write.contents l.out.inner) (flat_map (ended_line l.float) done)
-      × (string_bytes l.block ≡ flat_map (ended_line l.float) waiting);
+      × Appends (g.W.Write.contents l.initial.out.inner) (g.W.Write.contents l.out.inner) (flat_map (ended_line l.extensions) done)
+      × (string_bytes l.block ≡ flat_map (ended_line l.extensions) waiting);
   rises : l.initial.out.failures ≤ l.out.failures;
 }

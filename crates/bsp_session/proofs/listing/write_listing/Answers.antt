@@ -10,7 +10,8 @@ pub returns-in_err-write_segment-clause-err : goal.returns-in_err-write_segment-
 returns-in_err-write_segment-clause-err g c =
     let p = err_from_is_err_and c.from_residual.result c.from_residual.ensures.1 in
     rw (p.1, p.2)
-    (IsErrorOfLines-at c.args.float c.args.image.now c.as_slice-segment-items.result.now c.loop-segment.segment-index c.segment-item.result
+    (IsErrorOfLines-at c.args.extensions c.args.image.now c.as_slice-segment-items.result.now c.loop-segment.segment-index
+    c.segment-item.result
     (stream g.W.Write.contents c.args.out.now c.write_segment.new.out)
     (stream g.W.Write.contents c.loop-segment.out c.write_segment.new.out) _
     (c.as_slice-segment-items.ensures ∙ ap (λ (i : Image). i.segments) c.image.view_is)

@@ -8,6 +8,6 @@ use Rattle.bsp_session.proofs.listing.write_listing.Given as goal
 abbrev pub invariant-loop-segment : goal.invariant-loop-segment
 invariant-loop-segment g l = record {
   written : Appends (g.W.Write.contents l.initial.out.inner) (g.W.Write.contents l.out.inner)
-      (flat_map (listing_of_segment l.float) (take l.segment-index l.segment-items));
+      (flat_map (listing_of_segment l.extensions) (take l.segment-index l.segment-items));
   rises : l.initial.out.failures ≤ l.out.failures;
 }

@@ -7,12 +7,12 @@ pub returns-in_err-file-clause-err : goal.returns-in_err-file-clause-err
 returns-in_err-file-clause-err g c =
     let p = err_from_is_err_and c.from_residual.result c.from_residual.ensures.1 in
     rw (p.1, p.2)
-    (λ text float given. inr (record { i = given.i; read = given.read; unwritten = record { bytes = refl; failures = refl } }))
+    (λ text extensions given. inr (record { i = given.i; read = given.read; unwritten = record { bytes = refl; failures = refl } }))
 
 pub returns-in_err-write_whole-clause-err : goal.returns-in_err-write_whole-clause-err
 returns-in_err-write_whole-clause-err g c =
     let p = err_from_is_err_and c.from_residual-in_err-write_whole.result c.from_residual-in_err-write_whole.ensures.1 in
-    rw (p.1, p.2) (λ text float given. record {
+    rw (p.1, p.2) (λ text extensions given. record {
       m = c.args.image.now;
       given = given;
       written = rw (c.as_slice.ensures.value ∙ c.in_ok-file.ensures) at c.in_err-write_whole.ensures.err;

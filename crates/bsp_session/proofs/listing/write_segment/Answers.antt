@@ -21,10 +21,11 @@ pub returns-in_err-write_whole-clause-err : goal.returns-in_err-write_whole-clau
 returns-in_err-write_whole-clause-err g c =
     let p = err_from_is_err_and c.from_residual-in_err-write_whole.result c.from_residual-in_err-write_whole.ensures.1 in
     let (done, waiting, is, appended, block) = c.in_ok-write_blocks.ensures.ok in
-    let whole = ap (flat_map (ended_line c.args.float)) is ∙ flat_map-append (ended_line c.args.float) done waiting
-    ∙ ap (λ bs. flat_map (ended_line c.args.float) done ++ bs) (sym (append-nil (flat_map (ended_line c.args.float) waiting))) in
+    let whole = ap (flat_map (ended_line c.args.extensions)) is ∙ flat_map-append (ended_line c.args.extensions) done waiting
+    ∙ ap (λ bs. flat_map (ended_line c.args.extensions) done ++ bs) (sym (append-nil (flat_map (ended_line c.args.extensions) waiting))) in
     rw (p.1, p.2) (
-      AppendsPrefix-behind (flat_map (ended_line c.args.float) done) (flat_map (ended_line c.args.float) waiting) [] _ _ _ _ whole appended
+      AppendsPrefix-behind (flat_map (ended_line c.args.extensions) done) (flat_map (ended_line c.args.extensions) waiting) []
+          _ _ _ _ whole appended
           (rw (c.as_bytes.ensures.value, block) at c.in_err-write_whole.ensures.err),
       HasRisen-above _ _ _ c.write_blocks.ensures.never_falls c.in_err-write_whole.ensures.fault,
     )
@@ -32,5 +33,5 @@ returns-in_err-write_whole-clause-err g c =
 pub returns-clause-ok : goal.returns-clause-ok
 returns-clause-ok g c =
     let (done, waiting, is, appended, block) = c.in_ok-write_blocks.ensures.ok in
-    rw (ap (flat_map (ended_line c.args.float)) is ∙ flat_map-append (ended_line c.args.float) done waiting)
+    rw (ap (flat_map (ended_line c.args.extensions)) is ∙ flat_map-append (ended_line c.args.extensions) done waiting)
     (Appends-trans _ _ _ _ _ appended (rw (c.as_bytes.ensures.value, block) at c.in_ok-write_whole.ensures.ok))

@@ -1,0 +1,5 @@
+pub mod Calls
+pub mod Lines
+pub mod Notes
+pub mod Parts
+pub mod Runs

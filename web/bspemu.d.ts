@@ -23,6 +23,7 @@ export interface Settings {
   ledger?: number;
   clock?: boolean;
   float?: boolean;
+  atomic?: boolean;
   large?: boolean;
   /** The most memory that the emulator takes from this host, in MiB; 1,024 if not said. Beyond it memory is refused. */
   hostMemory?: number;
@@ -36,11 +37,11 @@ export interface RunSettings extends Settings {
   /** Whether the profile of the run is told, or else its counts. Nothing is written before the end of such a run. */
   profile?: boolean;
   counts?: boolean;
+  /** Is called with what the nodes wrote in a superstep, once that is over. */
+  onOutput?: (bytes: Uint8Array) => void;
 }
 
 export interface LiveSettings extends RunSettings {
-  /** Is called with what the nodes wrote in a superstep, once that is over, and with the report at the end. */
-  onOutput?: (bytes: Uint8Array) => void;
   /** Ends the run. */
   signal?: AbortSignal;
 }
@@ -82,20 +83,29 @@ export interface Emulator {
   /** The same here and now: it blocks until the run is over. */
   runHere(settings: RunSettings): Answer;
   /** The ELF file of a text. */
-  assemble(text: string, settings?: { float?: boolean }): Uint8Array;
+  assemble(text: string, settings?: { float?: boolean; atomic?: boolean }): Uint8Array;
   /** The listing of a program: a line for each word. */
-  list(image: Content, settings?: { format?: "elf" | "raw" | "asm"; float?: boolean; large?: boolean }): string;
+  list(image: Content, settings?: { format?: "elf" | "raw" | "asm"; float?: boolean; atomic?: boolean; large?: boolean }): string;
   /** Starts the debugger in a worker of its own. */
   debug(settings: Settings): Promise<DebugSession>;
 }
 
-/** What the emulator refused, with its own text and its exit status. */
+/** What the emulator refused, with its own text, its exit status, and what was written before. */
 export class Refused extends Error {
   status: number;
+  output: Uint8Array;
 }
 
 /** The run or the session was ended from outside. Its name is AbortError. */
 export class Ended extends Error {}
 
+export interface Loading {
+  /**
+   * Starts a worker of this name with this file. A page that was not opened from a server needs its own: there, a browser starts no worker
+   * with a module. The file also works as a script, without its exports and `import.meta.url`.
+   */
+  startWorker?: (name: string) => Worker;
+}
+
 /** The emulator: of bspemu.wasm beside this file, or of the module that is given. */
-export function load(module?: WebAssembly.Module | ArrayBuffer | ArrayBufferView): Promise<Emulator>;
+export function load(module?: WebAssembly.Module | ArrayBuffer | ArrayBufferView, loading?: Loading): Promise<Emulator>;

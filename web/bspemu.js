@@ -23,6 +23,8 @@ const OUTPUT = 1;
 const ERRORS = 2;
 const BESIDE = 3;
 const WORKER = "bspemu.js";
+// The most bytes of a line that goes through shared memory.
+const MOST_SHARED = 1 << 20;
 const NUMBERS = [
   ["nodes", 1, 2 ** 32 - 1],
   ["memory", 1048576, 2 ** 32 - 1],
@@ -32,12 +34,17 @@ const NUMBERS = [
   ["l", 0, 2 ** 32 - 1],
 ];
 
-/** What the emulator refused: its own text, without the program's name, and its exit status. */
+const NOTHING = new Uint8Array(0);
+// How the lines behind the output begin.
+const LINES_BEGIN = /^(?:superstep 0: w \d+ h \d+|total \d+\n)/;
+
+/** What the emulator refused: its own text, without the program's name, its exit status, and what was written before. */
 export class Refused extends Error {
-  constructor(text, status) {
+  constructor(text, status, output = NOTHING) {
     super(text);
     this.name = "Refused";
     this.status = status;
+    this.output = output;
   }
 }
 
@@ -210,7 +217,7 @@ class Streams {
     this.heap = heap;
     this.handed = handed;
     this.next = next;
-    this.left = new Uint8Array(0);
+    this.left = NOTHING;
   }
 
   write(stream, at, count) {
@@ -258,7 +265,7 @@ function optionBytes(wishes) {
   view.setBigUint64(0, BigInt(wishes.limit), true);
   const words = [wishes.format, wishes.nodes, wishes.memory, wishes.ledger, wishes.g, wishes.l];
   words.forEach((word, k) => view.setUint32(8 + 4 * k, word, true));
-  const flags = [wishes.clock, wishes.float, wishes.large, wishes.report];
+  const flags = [wishes.clock, wishes.float, wishes.atomic, wishes.large, wishes.report];
   flags.forEach((flag, k) => view.setUint8(32 + k, flag ? 1 : 0));
   return new Uint8Array(view.buffer);
 }
@@ -276,7 +283,7 @@ function instance(module, wishes, handed, next, suspends) {
   const passed = {
     run: () => [options, ...image, ...pass(wishes.input)],
     list: () => [options, ...image],
-    assemble: () => [wishes.float ? 1 : 0, ...image],
+    assemble: () => [options, ...image],
   };
   const words = (passed[wishes.call] ?? passed.run)();
   heap.requests = 0;
@@ -325,7 +332,7 @@ function wishesOf(call, settings) {
     }
     wishes[name] = number;
   }
-  for (const name of ["clock", "float", "large"]) {
+  for (const name of ["clock", "float", "atomic", "large"]) {
     wishes[name] = Boolean(settings[name]);
   }
   wishes.report = settings.report !== false;
@@ -346,62 +353,84 @@ function joined(pieces) {
 
 const textOf = (bytes) => new TextDecoder().decode(bytes);
 
-// The lines behind the output are written at once, and last.
-function runAnswer(wishes, pieces, status) {
-  const errors = textOf(joined(pieces[ERRORS]));
-  if (errors !== "") {
-    throw new Refused(errors.trimEnd(), status);
+// What a call writes. The output of a superstep comes in one piece, and so do the lines behind the output, last. A piece that may be these
+// lines waits until there is another one.
+class Written {
+  constructor(hasLines, onOutput) {
+    this.hasLines = hasLines;
+    this.onOutput = onOutput;
+    this.pieces = [[], [], [], []];
+    this.held = undefined;
   }
-  const written = pieces[OUTPUT];
-  const report = wishes.report ? textOf(written[written.length - 1]) : "";
-  const output = joined(wishes.report ? written.slice(0, -1) : written);
-  const outcome = report.trimEnd().split("\n").pop();
-  const answer = { output, report, outcome, status };
-  if (wishes.call !== "run") {
-    answer[wishes.call] = textOf(joined(pieces[BESIDE]));
-  }
-  return answer;
-}
 
-function otherAnswer(pieces, status) {
-  const errors = textOf(joined(pieces[ERRORS]));
-  if (errors !== "") {
-    throw new Refused(errors.trimEnd(), status);
+  take(stream, bytes) {
+    if (stream !== OUTPUT) {
+      this.pieces[stream].push(bytes);
+      return;
+    }
+    this.release();
+    this.held = bytes;
+    if (!this.hasLines || !LINES_BEGIN.test(textOf(bytes.subarray(0, 100)))) {
+      this.release();
+    }
   }
-  return joined(pieces[OUTPUT]);
+
+  release() {
+    if (this.held !== undefined) {
+      this.pieces[OUTPUT].push(this.held);
+      this.onOutput?.(this.held);
+      this.held = undefined;
+    }
+  }
+
+  all(stream) {
+    return joined(this.pieces[stream]);
+  }
+
+  // A refusal's text stands alone; what was held back then is output.
+  check(status) {
+    const errors = textOf(this.all(ERRORS));
+    if (errors !== "") {
+      this.release();
+      throw new Refused(errors.trimEnd(), status, this.all(OUTPUT));
+    }
+  }
 }
 
 // Makes a call here and now.
-function perform(module, wishes, live) {
-  const pieces = [[], [], [], []];
-  const handed = (stream, bytes) => {
-    pieces[stream].push(bytes);
-    live?.(stream, bytes);
-  };
-  const made = instance(module, wishes, handed, () => new Uint8Array(0), false);
+function perform(module, wishes, onOutput) {
+  const isRun = wishes.call !== "list" && wishes.call !== "assemble";
+  const written = new Written(isRun && wishes.report, onOutput);
+  const made = instance(module, wishes, (stream, bytes) => written.take(stream, bytes), () => NOTHING, false);
   const status = made.call(...made.words);
-  if (wishes.counted) {
-    wishes.counted(made.heap);
+  written.check(status);
+  if (!isRun) {
+    return written.all(OUTPUT);
   }
-  return wishes.call === "list" || wishes.call === "assemble" ? otherAnswer(pieces, status) : runAnswer(wishes, pieces, status);
+  const report = textOf(written.held ?? NOTHING);
+  const answer = { output: written.all(OUTPUT), report, outcome: report.trimEnd().split("\n").pop(), status };
+  if (wishes.call !== "run") {
+    answer[wishes.call] = textOf(written.all(BESIDE));
+  }
+  return answer;
 }
 
 // ---- workers
 
 const isNode = typeof process === "object" && process.versions?.node !== undefined;
 
-// A worker, in a page or in node, with the same three calls.
-async function startWorker() {
-  if (isNode) {
-    const { Worker } = await import("node:worker_threads");
-    const worker = new Worker(new URL(import.meta.url), { name: WORKER, workerData: WORKER });
-    return {
-      post: (message) => worker.postMessage(message),
-      listen: (message, failure) => worker.on("message", message).on("error", failure),
-      end: () => void worker.terminate(),
-    };
-  }
-  const worker = new Worker(import.meta.url, { name: WORKER, type: "module" });
+// A worker, in node or in a page, with the same three calls.
+async function workerInNode() {
+  const { Worker } = await import("node:worker_threads");
+  const worker = new Worker(new URL(import.meta.url), { name: WORKER, workerData: WORKER });
+  return {
+    post: (message) => worker.postMessage(message),
+    listen: (message, failure) => worker.on("message", message).on("error", failure),
+    end: () => void worker.terminate(),
+  };
+}
+
+function workerInPage(worker) {
   return {
     post: (message) => worker.postMessage(message),
     listen: (message, failure) => {
@@ -430,13 +459,17 @@ function serve(post, listen) {
   });
 }
 
+function errorOf(message) {
+  return message.refused === undefined ? new Error(message.failed) : new Refused(message.refused, message.status, message.output);
+}
+
 function failureOf(error) {
-  return error instanceof Refused ? { refused: error.message, status: error.status } : { failed: String(error) };
+  return error instanceof Refused ? { refused: error.message, status: error.status, output: error.output } : { failed: String(error) };
 }
 
 function serveCall({ module, wishes }, post) {
   try {
-    post({ answer: perform(module, wishes, wishes.live ? (stream, bytes) => post({ stream, bytes }) : undefined) });
+    post({ answer: perform(module, wishes, wishes.live ? (bytes) => post({ piece: bytes }) : undefined) });
   } catch (error) {
     post(failureOf(error));
   }
@@ -480,6 +513,9 @@ function sharedLine(shared) {
 
 function postShared(shared, line) {
   const bytes = new TextEncoder().encode(line);
+  if (bytes.length > MOST_SHARED) {
+    throw new RangeError(`a line for the debugger has at most ${MOST_SHARED} bytes here`);
+  }
   new Uint8Array(shared, 4).set(bytes);
   const words = new Int32Array(shared, 0, 1);
   Atomics.store(words, 0, bytes.length);
@@ -504,11 +540,14 @@ class Debugger {
       this.wanted = undefined;
       wanted?.resolve(message.reply);
     } else if (message.ended !== undefined && message.errors === "") {
-      this.fail(new Refused("the debugger has ended", message.ended));
+      // The line was `quit`, which has no reply.
+      this.wanted?.resolve(NOTHING);
+      this.wanted = undefined;
+      this.fail(new Ended());
     } else if (message.ended !== undefined) {
       this.fail(new Refused(message.errors.trimEnd(), message.ended));
     } else {
-      this.fail(message.refused !== undefined ? new Refused(message.refused, message.status) : new Error(message.failed));
+      this.fail(errorOf(message));
     }
   }
 
@@ -527,14 +566,16 @@ class Debugger {
     if (this.wanted !== undefined) {
       throw new Error("the last line has no reply yet");
     }
-    if (/[\n\0]/.test(line) || line.length > 65536) {
-      throw new TypeError("a line for the debugger has no line feed, and at most 65536 characters");
+    if (line.includes("\n")) {
+      throw new TypeError("a line for the debugger has no line feed");
     }
-    const reply = new Promise((resolve, reject) => (this.wanted = { resolve, reject }));
     this.shared ? postShared(this.shared, `${line}\n`) : this.worker.post({ line: `${line}\n` });
+    const reply = new Promise((resolve, reject) => (this.wanted = { resolve, reject }));
     const bytes = await reply;
-    const end = bytes.indexOf(10);
-    return { refused: bytes[0] === 0x72, bytes: bytes.subarray(end + 1), text: textOf(bytes.subarray(end + 1)), header: textOf(bytes.subarray(0, end)) };
+    const end = Math.max(bytes.indexOf(10), 0);
+    const lines = bytes.subarray(end + 1);
+    const header = textOf(bytes.subarray(0, end));
+    return { refused: header.startsWith("refused"), header, bytes: lines, text: textOf(lines) };
   }
 
   end() {
@@ -543,31 +584,34 @@ class Debugger {
 }
 
 class Emulator {
-  constructor(module) {
+  constructor(module, startWorker) {
     this.module = module;
+    this.startWorker = startWorker ?? ((name) => new Worker(import.meta.url, { name, type: "module" }));
+  }
+
+  async worker() {
+    return isNode ? workerInNode() : workerInPage(this.startWorker(WORKER));
   }
 
   runHere(settings) {
-    return perform(this.module, wishesOf(callOf(settings), settings), settings.onWrite);
+    return perform(this.module, wishesOf(callOf(settings), settings), settings.onOutput);
   }
 
   async run(settings) {
     const wishes = wishesOf(callOf(settings), settings);
     wishes.live = settings.onOutput !== undefined;
     settings.signal?.throwIfAborted();
-    const worker = await startWorker();
+    const worker = await this.worker();
     try {
       return await new Promise((resolve, reject) => {
         settings.signal?.addEventListener("abort", () => reject(new Ended()), { once: true });
         worker.listen((message) => {
           if (message.answer !== undefined) {
             resolve(message.answer);
-          } else if (message.stream === OUTPUT) {
-            settings.onOutput(message.bytes);
-          } else if (message.refused !== undefined) {
-            reject(new Refused(message.refused, message.status));
-          } else if (message.failed !== undefined) {
-            reject(new Error(message.failed));
+          } else if (message.piece !== undefined) {
+            settings.onOutput(message.piece);
+          } else {
+            reject(errorOf(message));
           }
         }, reject);
         worker.post({ module: this.module, wishes });
@@ -591,8 +635,8 @@ class Emulator {
     if (!suspends && (typeof SharedArrayBuffer === "undefined" || !(isNode || globalThis.crossOriginIsolated))) {
       throw new Error(SUSPENDING);
     }
-    const shared = suspends ? undefined : new SharedArrayBuffer(4 + 4 * 65540);
-    const worker = await startWorker();
+    const shared = suspends ? undefined : new SharedArrayBuffer(4 + MOST_SHARED);
+    const worker = await this.worker();
     const session = new Debugger(worker, shared);
     worker.post({ module: this.module, wishes, shared });
     await session.begun;
@@ -618,23 +662,24 @@ async function bytesBeside() {
 }
 
 /** The emulator: of the module that is given, or else of bspemu.wasm beside this file. */
-export async function load(source) {
+export async function load(source, { startWorker } = {}) {
   if (source instanceof WebAssembly.Module) {
-    return new Emulator(source);
+    return new Emulator(source, startWorker);
   }
   const bytes = source === undefined ? await bytesBeside() : bytesOf(source, "the module");
   if (!WebAssembly.validate(bytes)) {
     throw new Error(VERSIONS);
   }
-  return new Emulator(await WebAssembly.compile(bytes));
+  return new Emulator(await WebAssembly.compile(bytes), startWorker);
 }
 
-// This file is its own worker.
+// This file is its own worker. It works as a script too, without its exports: see `startWorker` in bspemu.d.ts.
 if (isNode) {
-  const { isMainThread, parentPort, workerData } = await import("node:worker_threads");
-  if (!isMainThread && workerData === WORKER) {
-    serve((message) => parentPort.postMessage(message), (hear) => parentPort.on("message", hear));
-  }
+  void import("node:worker_threads").then(({ isMainThread, parentPort, workerData }) => {
+    if (!isMainThread && workerData === WORKER) {
+      serve((message) => parentPort.postMessage(message), (hear) => parentPort.on("message", hear));
+    }
+  });
 } else if (typeof WorkerGlobalScope === "function" && globalThis.name === WORKER) {
   serve((message) => globalThis.postMessage(message), (hear) => (globalThis.onmessage = (event) => hear(event.data)));
 }

@@ -8,7 +8,7 @@ import contextlib
 import pathlib
 import sys
 import tempfile
-from typing import Any, Dict, List, Optional
+from typing import Any, Dict, Iterator, List, Optional
 
 REPO = pathlib.Path(__file__).resolve().parents[2]
 sys.path[:0] = [str(REPO / "tests")]
@@ -20,7 +20,7 @@ from fuzz.bench import Bench, Trial, Word  # noqa: E402
 Record = Dict[str, Any]
 # Options with a number, with the key of the interface where it has one.
 NUMBERS = ("nodes", "memory", "limit", "g", "l", "ledger")
-FLAGS = ("clock", "float", "large")
+FLAGS = ("clock", "float", "atomic", "large")
 # What a session's refusal begins with on standard error.
 NAME = b"bspemu: "
 WIDEST = 2**32 - 1
@@ -114,12 +114,33 @@ class Recorder(Bench):
         }
 
 
+def chosen() -> Iterator[List[Word]]:
+    """The words of starts with examples: on few ranks and on many, with a profile and counts, at their limits, and with settings that are
+    refused."""
+    texts = sorted(map(str, (REPO / "examples").glob("*.s")))
+    for text in texts:
+        for nodes in ("1", "8"):
+            yield ["run", text, "--format", "asm", "--nodes", nodes, "--report", "--g", "3", "--l", "20"]
+    for name in ("broadcast.s", "prefix_sum_put.s", "messages.s", "refused.s", "wrong_put.s"):
+        yield ["run", str(REPO / "examples" / name), "--format", "asm", "--nodes", "1024", "--report"]
+    numbers = ["--input", str(REPO / "examples/c/numbers.txt")]
+    for elf in sorted(map(str, (REPO / "examples/c").glob("*.elf"))):
+        words: List[Word] = ["run", elf, "--float", "--nodes", "8", *numbers]
+        for more in (["--report"], ["--profile", "profile", "--report"], ["--counts", "counts"], ["--limit", "2000"]):
+            yield [*words, "--limit", "100000000", *more] if "--limit" not in more else [*words, *more]
+        yield ["list", elf, "--float"]
+    for setting in ("--nodes=0", "--nodes=1025", "--memory=4095", "--memory=33554432", "--limit=0", "--memory=4096"):
+        yield ["run", texts[0], "--format", "asm", setting, "--report"]
+
+
 def recorded(program: pathlib.Path, seed: int, count: int) -> List[Record]:
-    """What was asked and answered in so many random runs."""
+    """What was asked and answered in the chosen starts, and in so many random runs."""
     kinds = [it for it in campaign.KINDS if it[0] not in ("words", "starved")]
     with tempfile.TemporaryDirectory(dir=campaign.fast_folder()) as folder:
         Recorder.records = []
         with Recorder(program, pathlib.Path(folder)) as bench:
+            for words in chosen():
+                bench.start(words, "", 0)
             for number in range(count):
                 kinds[number % len(kinds)][1](Trial(bench, seed, number))
                 bench.clear()

@@ -14,8 +14,8 @@ function joined(pieces) {
   return all;
 }
 
-// What a record asks for, as the interface wants it.
-function settingsOf(record) {
+/** What a record asks for, as the interface wants it. */
+export function settingsOf(record) {
   const settings = { ...record.settings, image: decoded(record.image), input: decoded(record.input) };
   return { hostMemory: 2048, ...settings };
 }
@@ -23,8 +23,6 @@ function settingsOf(record) {
 // What a call answers: all that it wrote, what it wrote beside that, the text of a refusal, and the status.
 async function answerOf(bspemu, record, failRequest = 0) {
   const settings = { ...settingsOf(record), failRequest };
-  const written = [];
-  const onWrite = (stream, bytes) => stream === 1 && written.push(bytes);
   try {
     if (record.call === "assemble") {
       return { out: bspemu.assemble(settings.image, settings), beside: "", text: "", status: 0 };
@@ -32,13 +30,14 @@ async function answerOf(bspemu, record, failRequest = 0) {
     if (record.call === "list") {
       return { out: new TextEncoder().encode(bspemu.list(settings.image, settings)), beside: "", text: "", status: 0 };
     }
-    const answer = bspemu.runHere({ ...settings, onWrite });
-    return { out: joined(written), beside: answer.profile ?? answer.counts ?? "", text: "", status: answer.status };
+    const answer = bspemu.runHere(settings);
+    const out = joined([answer.output, new TextEncoder().encode(answer.report)]);
+    return { out, beside: answer.profile ?? answer.counts ?? "", text: "", status: answer.status };
   } catch (error) {
     if (error.name !== "Refused") {
       throw error;
     }
-    return { out: joined(written), beside: "", text: error.message, status: error.status };
+    return { out: error.output, beside: "", text: error.message, status: error.status };
   }
 }
 

@@ -6,6 +6,7 @@ One run has all of them, with the places in the code from which they were made. 
 from __future__ import annotations
 
 import functools
+import itertools
 import struct
 from collections.abc import Iterator
 from dataclasses import dataclass, field
@@ -93,7 +94,7 @@ class Superstep:
         counts: Counter[int] = Counter()
         for content in self.records.values():
             words = struct.unpack(f"<{len(content) // 4}I", content)
-            counts.update(pid for number, pid in zip(words[::_WORDS], words[_PID::_WORDS]) if number == SEND)
+            counts.update(itertools.compress(words[_PID::_WORDS], map(SEND.__eq__, words[::_WORDS])))
         return max(counts.values())
 
     @functools.cached_property

@@ -377,11 +377,13 @@ class Portable:
         self.queue()
 
     def note_sums(self, tried: list[Choices]) -> None:
-        """Tells, as no mistake by itself, of messages whose numbers have another sum in an order that was tried."""
+        """Tells, as no mistake by itself, of messages whose numbers have another sum in an order that was tried, if the rank adds them up."""
         found = sums_of_messages.other_sum(self.log, tried)
-        if found is not None:
-            choices, it = found
-            line = f"rank {it.rank} gets {len(it.numbers)} messages in superstep {it.superstep} whose numbers have another sum in another order"
+        if found is None:
+            return
+        choices, it = found
+        if sums_of_messages.is_added(it, self.ended.last, self.trials.replays(Choices()), self.trials.replays(choices)):
+            line = f"rank {it.rank} adds up the numbers of {len(it.numbers)} messages of superstep {it.superstep}, in another order to another sum"
             self.verdict.notes.append(f"for information: {line}: --order {orders.spelled(choices)}")
 
     def tag_size(self, superstep: int, rank: int) -> int:

@@ -12,8 +12,11 @@ from collections.abc import Iterator, Sequence
 from typing import List, NamedTuple, Tuple
 
 from ..framed.environment_calls import SEND
+from ..framed.replays import Replays
+from ..framed.session import RefusalCode, Session, floats_of
 from ..prepare.library_choices import NUMBERED, WORD, Choices, swaps
 from .call_log import CALL, Superstep
+from .trial_runs import MOST_SHOWN, memory_of
 
 # How many queues are looked at, of how many messages each, and how many orders of them are tried here.
 MOST_QUEUES, MOST_MESSAGES, MOST_ORDERS = 16, 256, 32
@@ -21,6 +24,10 @@ MOST_QUEUES, MOST_MESSAGES, MOST_ORDERS = 16, 256, 32
 LEAST, MOST = 1e-30, 1e30
 SINGLE, DOUBLE = struct.Struct("<f"), struct.Struct("<d")
 WORDS = struct.Struct("<Ii")
+# How far two sums of the same numbers may lie apart, against the greater: numbers of 64 bits, and of 32.
+NEAR_DOUBLE, NEAR_SINGLE = 1e-9, 1e-4
+# So many bytes are compared at once, and so many of a memory.
+BLOCK, MOST_COMPARED = 1 << 12, 1 << 24
 
 
 class Queue(NamedTuple):
@@ -104,3 +111,47 @@ def other_sum(steps: Sequence[Superstep], tried: Sequence[Choices]) -> Tuple[Cho
     found = list(itertools.islice(queues(steps), MOST_QUEUES))
     here = [sum_of(it.numbers, it.is_single) for it in found]
     return next(((choices, it) for choices in tried for it, one in zip(found, here) if it.sum_in(choices) != one), None)
+
+
+def is_added(it: Queue, last: int, here: Replays, other: Replays) -> bool:
+    """Whether the rank adds its numbers up as they come: where the superstep ends, or the last one, it has a number that is in the other order
+    another one by no more than rounding."""
+    ends = {it.superstep, last}
+    return any(differs_by_rounding(held(here, it, end), held(other, it, end), it.is_single) for end in ends)
+
+
+def held(replays: Replays, it: Queue, superstep: int) -> bytes:
+    """The registers of floating point and the memory of a rank at the end of a superstep."""
+    with replays.end_of(superstep) as session:
+        return registers(session, it.rank) + memory(session, it.rank, min(replays.memory, MOST_COMPARED))
+    return b""
+
+
+def registers(session: Session, rank: int) -> bytes:
+    """The registers of floating point, if there are any."""
+    reply = session.ask(f"fregs {rank}")
+    return struct.pack("<32Q", *floats_of(reply.lines).f) if reply.code != RefusalCode.NO_FLOAT_UNIT else b""
+
+
+def memory(session: Session, rank: int, size: int) -> bytes:
+    """The first bytes of the memory."""
+    return b"".join(memory_of(session, rank, at, min(size - at, MOST_SHOWN)) for at in range(0, size, MOST_SHOWN))
+
+
+def differs_by_rounding(one: bytes, other: bytes, is_single: bool) -> bool:
+    """Whether a number of one has another value at its place in the other one, and lies near it. A sum of 32 bits is one of 64 where it is
+    printed."""
+    near, forms = (NEAR_SINGLE, (SINGLE, DOUBLE)) if is_single else (NEAR_DOUBLE, (DOUBLE,))
+    for start in range(0, min(len(one), len(other)) // DOUBLE.size * DOUBLE.size, BLOCK):
+        blocks = [it[start : start + BLOCK] for it in (one, other)]
+        size = min(map(len, blocks)) // DOUBLE.size * DOUBLE.size
+        for form in forms if blocks[0] != blocks[1] else ():
+            pairs = zip(*(form.iter_unpack(it[:size]) for it in blocks))
+            if any(are_near(a, b, near) for (a,), (b,) in pairs):
+                return True
+    return False
+
+
+def are_near(one: float, other: float, near: float) -> bool:
+    """Whether two numbers are not the same and lie near one another."""
+    return one != other and LEAST < abs(one) < MOST and abs(one - other) <= near * abs(one)

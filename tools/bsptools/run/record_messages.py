@@ -43,7 +43,7 @@ def put_files(job: Job, made: list[Record]) -> Files:
         kept = {it: "it is read as" for it in [options.program, *options.sources, *filter(None, [options.input]), *options.file]}
         kept.update({it: "bsprun itself writes" for it in outputs_of(options)})
         given = dict(given_files(options)) if len(written.files) > 1 else {}
-        tell([f"bsprun: {it}" for it in written.put(options.out, kept, given)])
+        tell([f"bsprun: {it}" for it in written.put(options.folder, kept, given)])
         if options.is_here and written.names:
             tell([f"bsprun: wrote {listed(written.names)}"])
     return written

@@ -420,3 +420,69 @@ CASE(sum_in_order_of_value, INNOCENT)
         sum += values[i];
     printf("%.17g\n", sum);
 }
+
+CASE(sum_that_begins_at_another_number, SUMS)
+{
+    double value, sum = 10 * me + 0.3;
+    int i;
+    for (i = 3 * me; i < 3 * me + 3; i++)
+        bsp_send(0, NULL, &tenths[i], sizeof value);
+    bsp_sync();
+    while (count_of() > 0) {
+        bsp_move(&value, sizeof value);
+        sum += value;
+    }
+    printf("%.3f\n", sum);
+}
+
+CASE(sum_of_floats_with_few_digits, SUMS)
+{
+    float value, sum = 0;
+    int i;
+    for (i = 3 * me; i < 3 * me + 3; i++) {
+        value = (float)tenths[i];
+        bsp_send(0, NULL, &value, sizeof value);
+    }
+    bsp_sync();
+    while (count_of() > 0) {
+        bsp_move(&value, sizeof value);
+        sum += value;
+    }
+    printf("%.3f\n", sum);
+}
+
+CASE(greatest_of_numbers, INNOCENT)
+{
+    double value, greatest = 0;
+    int i;
+    for (i = 3 * me; i < 3 * me + 3; i++)
+        bsp_send(0, NULL, &tenths[i], sizeof value);
+    bsp_sync();
+    while (count_of() > 0) {
+        bsp_move(&value, sizeof value);
+        greatest = value > greatest ? value : greatest;
+    }
+    printf("%.17g\n", greatest);
+}
+
+CASE(numbers_in_order_of_their_senders, INNOCENT)
+{
+    struct {
+        int index;
+        double value;
+    } it = {0, 0};
+    double values[9], sum = 0;
+    int i;
+    for (i = 3 * me; i < 3 * me + 3; i++) {
+        it.index = i, it.value = tenths[i];
+        bsp_send(0, NULL, &it, sizeof it);
+    }
+    bsp_sync();
+    while (count_of() > 0) {
+        bsp_move(&it, sizeof it);
+        values[it.index] = it.value;
+    }
+    for (i = 0; i < 9 && me == 0; i++)
+        sum += values[i];
+    printf("%.17g\n", sum);
+}

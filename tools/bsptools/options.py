@@ -135,7 +135,7 @@ class Parser(argparse.ArgumentParser):
         self.add_argument("--float", action="store_true", help="give nodes floating-point units. Automatic for programs of bspcc, and for"
             " assembly with floating-point instructions")  # fmt: skip
         self.add_argument("--atomic", action="store_true", help="give nodes the instructions of extension A. Automatic for programs that were"
-            " compiled for these")  # fmt: skip
+            " compiled for these, and for assembly with these")  # fmt: skip
 
     def add_prices(self, g: Callable[[str], object] | None = None, l: Callable[[str], object] | None = None) -> None:
         """g and l, where each is one number: a whole one, or what these readers take."""

@@ -244,6 +244,7 @@ def main(words: list[str]) -> int:
             raise Refused(f"--out wants a folder, which {options.out} is not")
         with about(options.out):
             os.mkdir(options.out)
+    options.folder = None if options.out is None else files.Folder.of(options.out)
     with children.folder("bsprun") as folder, contextlib.closing(Beside(folder)) as beside:
         job = prepared(options, folder, "bsprun", is_marked=True, beside=beside.build)
         if options.order is not None:

@@ -260,7 +260,7 @@ class Runner:
             self._show_output()
         if isinstance(arrival, Over):
             self.show(f"{arrival.outcome}\n".encode() + (ENDS if isinstance(halt, Exit) else b""))
-            self._tell_unit_wanted(rank_of(arrival.outcome, current))
+            self._tell_extension_wanted(rank_of(arrival.outcome, current))
         elif arrival == AtSuperstep(self.machine.superstep) and halt is not None:
             self.show(f"superstep {self.machine.superstep} begins\n".encode())
         return halt
@@ -402,15 +402,15 @@ class Runner:
         if state in ("running", "synced", "ended"):
             return None
         self.show(f"rank {rank}: {state}\n".encode())
-        self._tell_unit_wanted(rank)
+        self._tell_extension_wanted(rank)
         return Stop(rank, gdb_terms.signal_of(state))
 
-    def _tell_unit_wanted(self, rank: int) -> None:
-        """Says what gives nodes units of floating point where a rank has stopped for want of one."""
+    def _tell_extension_wanted(self, rank: int) -> None:
+        """Says what gives nodes an extension where a rank has stopped for want of it."""
         if self.machine.has_floats:
             return
         node = self.machine.node(rank)
-        for line in named_views.unit_wanted(node.state, self.machine.memory(rank, node.pc, 4)):
+        for line in named_views.extension_wanted(node.state, self.machine.memory(rank, node.pc, 4)):
             self.show(f"bspgdb: {line}\n".encode())
 
     def _as_end_of_step(self, halt: Halt) -> Halt:

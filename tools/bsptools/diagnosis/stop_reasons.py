@@ -14,8 +14,7 @@ from ..framed.replays import Replays, bytes_of
 from ..framed.session import Node, Session, floats_of, node_of, signed
 from ..limits import MOST_SOURCE, MOST_STACK, MOST_TAG, MOST_TICKS
 from ..outputs.report import Report
-from ..program.atomic_names import address_register, atomic_name
-from ..program.code import ECALL, Code, float_name, source_lines
+from ..program.code import ATOMIC, ECALL, FLOAT, Code, name_with, source_lines
 from ..program.memory_need import size_text
 from ..refusals import Refused, counted, numbered
 
@@ -241,14 +240,15 @@ class Why:
         if node.pc % 2:
             return [f"the program begins at {node.pc:#x}, and instructions stand at even addresses"]
         content = self.bytes_at_end(node.rank, node.pc, 4)
-        name, address = atomic_name(content) or "the instruction", node.x[address_register(content)]
+        name, address = name_with(ATOMIC, content) or "the instruction", node.x[address_register(content)]
         return [f"{name} is of a word, and its address {address:#x} is no multiple of 4"]
 
     def no_instruction(self, node: Node, content: bytes) -> str:
         """What code is that a node does not have."""
-        atomic = atomic_name(content)
-        if atomic and not self.code.is_atomic:
-            return f"{atomic}, of extension A, which nodes do not have: give --atomic"
+        if not self.code.is_atomic:
+            atomic = name_with(ATOMIC, content)
+            if atomic:
+                return f"{atomic}, of extension A, which nodes do not have: give --atomic"
         name, mode = float_instruction(content)
         if not name:
             return "no instruction that a node has"
@@ -428,4 +428,9 @@ def float_instruction(content: bytes) -> tuple[str, int]:
     word = int.from_bytes(content, "little")
     mode = word >> MODE & DYNAMIC
     is_reserved = len(content) == 4 and mode in RESERVED
-    return float_name(content) or is_reserved and float_name((word | DYNAMIC << MODE).to_bytes(4, "little")) or "", mode
+    return name_with(FLOAT, content) or is_reserved and name_with(FLOAT, (word | DYNAMIC << MODE).to_bytes(4, "little")) or "", mode
+
+
+def address_register(content: bytes) -> int:
+    """The register in which an instruction of extension A has its address."""
+    return int.from_bytes(content, "little") >> 15 & 31

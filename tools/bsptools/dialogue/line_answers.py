@@ -164,14 +164,14 @@ class Dialogue:
         self._is_told = True
         lines = list(self._where(Asked("where", {}, [])))
         _tell(*lines[:MOST_PLACES], *([f"and {len(lines) - MOST_PLACES} ranks more: where"] if len(lines) > MOST_PLACES else []))
-        _tell(*self._unit_wanted(rank_of(line, 0)))
+        _tell(*self._extension_wanted(rank_of(line, 0)))
 
-    def _unit_wanted(self, rank: int) -> List[str]:
-        """What is told of a rank that has stopped for want of a unit of floating point."""
+    def _extension_wanted(self, rank: int) -> List[str]:
+        """What is told of a rank that has stopped for want of an extension."""
         node = self._node(rank)
         if self.names.code.is_float or node.pc >= self._size:
             return []
-        return named_views.unit_wanted(node.state, self._memory(rank, node.pc, 4))
+        return named_views.extension_wanted(node.state, self._memory(rank, node.pc, 4))
 
     def _with_names(self, line: str) -> str:
         """A line with the names of the addresses that it tells."""

@@ -19,6 +19,8 @@ from .variables import Variables
 
 ECALL = bytes([0x73, 0, 0, 0])
 ECALLS = re.compile(ECALL)
+# The options of the emulator for extensions of the instruction set: F and D, and A.
+FLOAT, ATOMIC = "--float", "--atomic"
 # The most bytes of a function that are listed.
 MOST_OF_A_FUNCTION = 1 << 18
 # The bytes that a line of a text takes besides at the least, with a label before it and a word behind it.
@@ -80,7 +82,7 @@ class Code:
         self.names: dict[str, int] = {}
         self.lines: list[tuple[int, int]] = []
         self.text, self.content = "", content
-        # Whether the nodes have units of floating point.
+        # Whether the nodes have units of floating point, and whether they have the instructions of extension A.
         self.is_float = False
         self.is_atomic = False
         self.debug: elf.Debug | None = None
@@ -89,6 +91,10 @@ class Code:
         self.bodies: dict[int, dict[int, Statement]] = {}
         self.prologues: dict[int, Any] = {}
         self.places: dict[int, list[tuple[str, str]]] = {}
+
+    def extensions(self) -> list[str]:
+        """The options of the emulator that give nodes what the program needs."""
+        return [FLOAT] * self.is_float + [ATOMIC] * self.is_atomic
 
     def know_names(self) -> Code:
         """Reads what an ELF file has for debuggers. That takes a while, and is wanted only where something is told of a run."""
@@ -118,12 +124,12 @@ class Code:
         than a function has the first are listed."""
         end = min(end, start + MOST_OF_A_FUNCTION)
         stored = next((content[start - at : end - at] for at, content in self.segments if at <= start < at + len(content)), b"")
-        return {start + place: Statement(name, operands, start + end, start) for place, end, name, operands in listing(stored, self.is_float)}
+        return {start + place: Statement(name, operands, start + end, start) for place, end, name, operands in listing(stored, self.extensions())}
 
     def statements_at(self, addresses: Iterable[int]) -> dict[int, Statement]:
         """The instructions of the image at these addresses, as the emulator lists them one behind another."""
         stored = {address: code for address in addresses if (code := self.stored(address))}
-        listed = listing(b"".join(stored.values()), self.is_float)
+        listed = listing(b"".join(stored.values()), self.extensions())
         return {
             address: Statement(name, operands, address + end - place, address - place)
             for address, (place, end, name, operands) in zip(stored, listed)
@@ -188,10 +194,10 @@ class Code:
         return found or self.calls()
 
 
-def listing(stored: bytes, is_float: bool = False) -> Iterator[tuple[int, int, str, list[str]]]:
-    """Place, end, name and operands of each instruction of these bytes, as the emulator lists them, with or without the names of floating
-    point."""
-    words = [emulator.emulator(), "list", "-", "--format", "raw"] + ["--float"] * is_float
+def listing(stored: bytes, extensions: Iterable[str] = ()) -> Iterator[tuple[int, int, str, list[str]]]:
+    """Place, end, name and operands of each instruction of these bytes, as the emulator lists them, with the names of the instructions
+    that these options give."""
+    words = [emulator.emulator(), "list", "-", "--format", "raw", *extensions]
     listed = subprocess.run(words, input=stored, stdout=subprocess.PIPE, check=False).stdout.decode()
     for line in listed.splitlines():
         place, stored_as, name, *operands = line.split("#")[0].replace(",", " ").split()
@@ -199,9 +205,9 @@ def listing(stored: bytes, is_float: bool = False) -> Iterator[tuple[int, int, s
         yield at, at + len(stored_as) // 2, name, operands
 
 
-def float_name(code: bytes) -> str:
-    """The name that code has where there are units of floating point; nothing where it has none."""
-    return next((name for _, _, name, _ in listing(code, is_float=True) if not name.startswith(".")), "")
+def name_with(extension: str, code: bytes) -> str:
+    """The name that code has with the option for this extension; nothing where it has none."""
+    return next((name for _, _, name, _ in listing(code, [extension]) if not name.startswith(".")), "")
 
 
 def first_code(content: bytes) -> bytes:
@@ -222,10 +228,11 @@ def read_elf(content: bytes) -> Code:
 
 def read_text(emulator: list[str], path: str, content: bytes, folder: pathlib.Path) -> Code:
     """The code of a text of this path: it is assembled with a label at each line, and the words of these labels behind it. None of one that
-    would be too long for the assembler with these. A text with statements of floating point wants units for them."""
+    would be too long for the assembler with these. A text with statements of an extension wants nodes that have it."""
     unknown = Code()
+    wanted = wanted_extensions(emulator, content, folder)
+    unknown.is_float, unknown.is_atomic = FLOAT in wanted, ATOMIC in wanted
     if len(content) + content.count(b"\n") * MARKS > MOST_TEXT:
-        unknown.is_float = wants_units(emulator, content, folder)
         return unknown
     lines = content.decode(errors="surrogateescape").split("\n")
     marked = folder / "marked.s"
@@ -235,16 +242,10 @@ def read_text(emulator: list[str], path: str, content: bytes, folder: pathlib.Pa
     words = "\n".join(f".word {label}" for label in labels)
     marked.write_text(f"{text}\n.align 2\n__lines: {words}\n.word __lines\n", errors="surrogateescape")
     image = folder / "marked.elf"
-    command = [*emulator, "asm", str(marked), str(image)]
-    refused = refusal(command)
-    is_float = bool(refused) and wants_units(emulator, content, folder)
-    if is_float:
-        refused = refusal([*command, "--float"])
-    if refused:
-        unknown.is_float = is_float
+    if refusal([*emulator, "asm", str(marked), str(image), *wanted]):
         return unknown
     code = read_elf(content_of(image, MOST_PROGRAM))
-    code.is_float = is_float
+    code.is_float, code.is_atomic = unknown.is_float, unknown.is_atomic
     start, stored = code.segments[0]
     marks = struct.unpack_from("<I", stored, len(stored) - 4)[0]
     *places, code.need = struct.unpack_from(f"<{len(labels)}I", stored, marks - start)
@@ -257,13 +258,16 @@ def read_text(emulator: list[str], path: str, content: bytes, folder: pathlib.Pa
     return code
 
 
-def wants_units(emulator: list[str], content: bytes, folder: pathlib.Path) -> bool:
-    """Whether a text has statements of floating point: it is taken with them alone, or refused for something else."""
+def wanted_extensions(emulator: list[str], content: bytes, folder: pathlib.Path) -> list[str]:
+    """The options for the extensions of which a text has statements: without such an option the assembler refuses the text, or refuses it
+    for something else than with all of them."""
     text = folder / "text.s"
     text.write_bytes(content)
     command = [*emulator, "asm", str(text), str(folder / "text.elf")]
-    refused = refusal(command)
-    return bool(refused) and refusal([*command, "--float"]) != refused
+    if not refusal(command):
+        return []
+    everything = refusal([*command, FLOAT, ATOMIC])
+    return [given for given, other in ((FLOAT, ATOMIC), (ATOMIC, FLOAT)) if refusal([*command, other]) != everything]
 
 
 def refusal(command: list[str]) -> str:

@@ -7,7 +7,7 @@ import struct
 from typing import Iterator, List
 
 from ..framed.session import Floats, Node
-from ..program.code import first_code, float_name, listing
+from ..program.code import ATOMIC, FLOAT, first_code, listing, name_with
 from ..program.register_names import FLOATS, REGISTERS
 from .symbol_names import Names
 
@@ -15,6 +15,8 @@ WORDS, BYTES = 4, 16
 # What stands above a single in a register of 64 bits; the flags of fcsr from the lowest bit on, and the rounding modes.
 BOX = 0xFFFFFFFF
 FLAGS, ROUNDING = ("NX", "UF", "OF", "DZ", "NV"), ("rne", "rtz", "rdn", "rup", "rmm")
+# What an instruction is that nodes do not have, by the option that gives them these.
+WANTED = {FLOAT: "of floating point, for which the nodes have no units", ATOMIC: "of extension A, which the nodes do not have"}
 
 _REGISTER = re.compile(r"\b([xf])([0-9]|[12][0-9]|3[01])\b")
 _TARGET = re.compile(r"0x[0-9a-f]{8}$")
@@ -42,10 +44,14 @@ def _float(name: str, pattern: int) -> str:
     return f"{name:>4}={pattern:016x} double {struct.unpack('<d', struct.pack('<Q', pattern))[0]!r}"
 
 
-def unit_wanted(state: str, code: bytes) -> List[str]:
-    """What a rank wants that nodes do not have, where it has stopped in this state before this code: a unit of floating point, if any."""
-    name = float_name(first_code(code)) if state == "fault IllegalInstruction" else ""
-    return [f"{name} is of floating point, for which the nodes have no units: bspgdb --float gives these"] if name else []
+def extension_wanted(state: str, code: bytes) -> List[str]:
+    """What a rank wants that nodes do not have, where it has stopped in this state before this code: an extension, if any."""
+    if state == "fault IllegalInstruction":
+        for option, missing in WANTED.items():
+            name = name_with(option, first_code(code))
+            if name:
+                return [f"{name} is {missing}: bspgdb {option} gives these"]
+    return []
 
 
 def behind(names: Names, address: int) -> str:
@@ -74,7 +80,7 @@ def text(data: bytes, is_cut: bool) -> str:
 
 def instructions(names: Names, addr: int, data: bytes, count: int, pc: int) -> Iterator[str]:
     """So many instructions, with the names of where they stand and go to; the one at which a node stands is marked."""
-    for number, (place, _, name, operands) in enumerate(listing(data, names.code.is_float)):
+    for number, (place, _, name, operands) in enumerate(listing(data, names.code.extensions())):
         if number == count:
             return
         mark = "=>" if addr + place == pc else "  "

@@ -394,11 +394,16 @@ class Longs:
             assert run.stdout is not None
             run.stdout.readline()
             is_alone = len(os.sched_getaffinity(0)) == 1
-            both = is_alone or becomes_true(lambda: any(" run " in it and "/long.elf " in it for it in commands_with(str(self.folder))))
+            # It is built and run with less priority than all else, so that on a busy host it begins late.
+            both = is_alone or becomes_true(self.runs_beside, SECONDS)
             run.send_signal(signal.SIGINT)
             _, errors = run.communicate(timeout=SECONDS)
         self.tally.expect("Ctrl-C", both and run.returncode == 130 and b"ended by Ctrl-C after" in errors, (both, run.returncode, errors))
         self.nothing_is_left("Ctrl-C")
+
+    def runs_beside(self) -> bool:
+        """Whether the build that notes what does not fit runs."""
+        return any(" run " in it and "/long.elf " in it for it in commands_with(str(self.folder)))
 
     def nothing_is_left(self, name: str) -> None:
         """No process goes on that has a file of this folder in its command, and no scratch file is there."""

@@ -252,9 +252,9 @@ def computes(program: str) -> bool:
     return becomes_true(lambda: seconds_of(program) >= enough)
 
 
-def becomes_true(question: Callable[[], bool]) -> bool:
-    """Whether something is so, or will be soon: processes end a little later than they are told to."""
-    until = time.monotonic() + SOON
+def becomes_true(question: Callable[[], bool], seconds: float = SOON) -> bool:
+    """Whether something is so, or will be soon: processes end a little later than they are told to, and begin later where many others run."""
+    until = time.monotonic() + seconds
     while time.monotonic() < until:
         if question():
             return True

@@ -10,7 +10,7 @@ from typing import Any, NoReturn
 
 from bsptools import children
 
-from ._runs import made
+from ._runs import expect_free, made
 from ._tools import BspError
 
 HELP = "%%bsp [-n P] [--profile] [--matrix] [--costs] [--g G] [--l L] [--name VARIABLE] [options of bsprun] [-- ARGS]"
@@ -35,6 +35,7 @@ def bsp(line: str, cell: str) -> Any:
     words = shlex.split(line)
     own = words[: words.index("--")] if "--" in words else words
     asked, options = reader.parse_known_args(own)
+    expect_free(options)
     with children.folder("bspemu") as folder:
         source = folder / "cell.c"
         source.write_text(cell, encoding="utf-8")

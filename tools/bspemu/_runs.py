@@ -18,6 +18,8 @@ if TYPE_CHECKING:
 
 # Programs that bsprun compiles, and so which can write files.
 COMPILED = (".c", ".cc", ".cpp", ".cxx", ".C")
+# Options of bsprun that each run here has by itself.
+TAKEN = ("--report", "--profile", "--out")
 Path = Union[str, "os.PathLike[str]"]
 
 
@@ -62,11 +64,19 @@ def run(
     BspError
         If the run could not be made, or did not end well and `check` is true; with the text that `bsprun` prints.
     """
+    expect_free(options)
     words = ["-n", str(nodes), *(f"-D{name}={value}" for name, value in (defines or {}).items())]
     words += [it for name in files for it in ("--file", os.fspath(name))]
     words += [*options, os.fspath(program), *map(str, args)]
     given = input.encode() if isinstance(input, str) else input if isinstance(input, bytes) else pathlib.Path(input).read_bytes()
     return made(words, os.fspath(program), given, check)
+
+
+def expect_free(options: Sequence[str]) -> None:
+    """Refuses options by which bsprun would put elsewhere what a run here has."""
+    for it in options:
+        if it.partition("=")[0] in TAKEN:
+            raise BspError(f"{it.partition('=')[0]} is not for runs from Python: a Run has the report, the profile and the files of the program")
 
 
 def made(words: List[str], program: str, given: bytes, check: bool) -> Run:

@@ -340,7 +340,12 @@ def _locked_folder(name: str, above: str) -> tuple[str, int]:
     """A new folder, and the number of a file that holds its lock as long as this process is there. It has a hidden name until it is locked."""
     hidden = tempfile.mkdtemp(prefix=f".{name}-", suffix=ENDING, dir=above)
     path = os.path.join(above, os.path.basename(hidden)[1:])
-    lock = os.open(hidden, os.O_RDONLY | os.O_DIRECTORY)
+    try:
+        lock = os.open(hidden, os.O_RDONLY | os.O_DIRECTORY)
+    except OSError:
+        # As with a umask that takes this user's own rights away.
+        os.rmdir(hidden)
+        raise
     # Some file systems have no locks. What is left there stays.
     with contextlib.suppress(OSError):
         fcntl.flock(lock, fcntl.LOCK_EX | fcntl.LOCK_NB)

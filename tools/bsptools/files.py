@@ -7,13 +7,29 @@ import errno
 import os
 import stat
 from collections.abc import Iterable, Iterator
-from typing import IO
+from typing import IO, NamedTuple
 
+from . import own_folders
 from .refusals import Refused, Unfit, about
 
 # So many links Linux follows, one after another.
 MOST_LINKS = 40
+# Of a file that the tools run or trust later. Who else may read it is up to its user's umask.
+OWN_MODE = 0o644
 GONE = "the folder that this was started in is gone"
+
+
+class Folder(NamedTuple):
+    """A folder where files go: its name, and its number since the run began. Another one, or a link, may have its name by the end."""
+
+    name: str
+    number: int
+
+    @staticmethod
+    def of(name: str) -> Folder:
+        """The folder that has this name now. It stays open."""
+        with about(name):
+            return Folder(name, os.open(name, os.O_PATH | os.O_DIRECTORY))
 
 
 def content_of(path: str | os.PathLike[str], most: int) -> bytes:
@@ -34,15 +50,24 @@ def own_content(path: str | os.PathLike[str], most: int) -> bytes:
     return _ordinary(path, most, os.O_NOFOLLOW)
 
 
+def believed_content(path: str | os.PathLike[str], most: int) -> bytes:
+    """The same of a file that says what is to be run. One that belongs to another user, or that others may write, is refused: its folder may
+    have been another one as it was looked at."""
+    return _ordinary(path, most, os.O_NOFOLLOW, is_believed=True)
+
+
 def named_content(path: str | os.PathLike[str], most: int) -> bytes:
     """The same of a file that another file names, and no person. A pipe or a device is refused: it may have no end."""
     return _ordinary(path, most)
 
 
-def _ordinary(path: str | os.PathLike[str], most: int, flags: int = 0) -> bytes:
+def _ordinary(path: str | os.PathLike[str], most: int, flags: int = 0, is_believed: bool = False) -> bytes:
     with about(path), os.fdopen(os.open(path, os.O_RDONLY | os.O_NONBLOCK | flags), "rb") as file:
-        if not stat.S_ISREG(os.fstat(file.fileno()).st_mode):
+        found = os.fstat(file.fileno())
+        if not stat.S_ISREG(found.st_mode):
             raise Refused(f"{os.fspath(path)} is no ordinary file")
+        if is_believed and (found.st_uid != os.geteuid() or found.st_mode & own_folders.OTHERS_WRITE):
+            raise Refused(f"{os.fspath(path)} is another user's, or others may write it")
         return _bytes_of(file, path, most)
 
 
@@ -81,47 +106,57 @@ def replaced(path: str | os.PathLike[str]) -> Iterator[str]:
     """A file to write, which takes the place of this one at the end of the block, so that this one is never there in part. Where nothing
     is written, nothing is replaced.
 
-    A link stays, and leads to the new file. What is no ordinary file, as a pipe, is written to as it is.
+    A link stays, and leads to the new file. What is no ordinary file, as a pipe, is written to as it is. In a folder where others may rename
+    what is there, the new file is written by its number: a link could have its name by then.
     """
     _expect_own_link(path)
     target = os.path.realpath(path)
     if os.path.exists(target) and not os.path.isfile(target):
         yield os.fspath(path)
         return
-    beside = os.path.join(os.path.dirname(target), beside_name())
+    folder = os.path.dirname(target)
+    beside = os.path.join(folder, beside_name())
     with about(path):
-        os.close(os.open(beside, os.O_CREAT | os.O_EXCL, 0o666))
+        number = os.open(beside, os.O_RDONLY | os.O_CREAT | os.O_EXCL, 0o666)
     try:
-        yield beside
+        yield beside if own_folders.is_held(folder) else f"/proc/{os.getpid()}/fd/{number}"
         with about(path):
-            _keep_mode(target, beside)
-            if os.path.getsize(beside) > 0:
+            _keep_mode(target, number)
+            if os.fstat(number).st_size > 0:
+                _expect_same(number, beside, path)
                 os.replace(beside, target)
     finally:
         with contextlib.suppress(OSError):
             os.unlink(beside)
+        os.close(number)
+
+
+def _expect_same(number: int, beside: str, path: str | os.PathLike[str]) -> None:
+    """Refuses to give its name to a new file that has been replaced meanwhile."""
+    if not os.path.samestat(os.fstat(number), os.lstat(beside)):
+        raise Refused(f"{os.fspath(path)} was not written: another process has replaced {beside}")
 
 
 def _expect_own_link(path: str | os.PathLike[str]) -> None:
     """Refuses a link that another user has put into a folder for all, as /tmp, and that may lead to a file of this user's. So does Linux where
-    a file is opened, but not where one is replaced."""
+    a file is opened in a folder with the sticky bit, but not where one is replaced."""
     place = os.fspath(path)
     for _ in range(MOST_LINKS):
         folder = os.path.dirname(place) or os.curdir
         if not os.path.islink(place):
             return
         link, above = os.lstat(place), os.stat(folder)
-        if above.st_mode & stat.S_ISVTX and above.st_mode & stat.S_IWOTH and link.st_uid not in (os.geteuid(), above.st_uid):
+        if above.st_mode & stat.S_IWOTH and link.st_uid not in (os.geteuid(), above.st_uid):
             raise Refused(f"{os.fspath(path)} is a link of another user's: give another name")
         place = os.path.join(folder, os.readlink(place))
 
 
-def _keep_mode(path: str, new: str) -> None:
+def _keep_mode(path: str, new: int) -> None:
     """Gives a new file the rights of the one whose place it takes, if that is this user's too: another one would choose who may write it."""
     with contextlib.suppress(FileNotFoundError):
         found = os.stat(path)
         if found.st_uid == os.geteuid():
-            os.chmod(new, stat.S_IMODE(found.st_mode) & 0o777)
+            os.fchmod(new, stat.S_IMODE(found.st_mode) & 0o777)
 
 
 def beside_name() -> str:
@@ -129,8 +164,9 @@ def beside_name() -> str:
     return f".bsp-{os.getpid()}-{os.urandom(4).hex()}"
 
 
-def put(path: str | os.PathLike[str], content: bytes | str, mode: int = 0o666) -> None:
-    """Writes a whole file in a folder of this user's own. What has its name there is replaced, and no link is followed."""
+def put(path: str | os.PathLike[str], content: bytes | str, mode: int = OWN_MODE) -> None:
+    """Writes a whole file in a folder of this user's own, which none but this user may write, whatever the umask. What has its name there is
+    replaced, and no link is followed."""
     beside = os.path.join(os.path.dirname(path), beside_name())
     with about(path):
         try:

@@ -16,7 +16,7 @@ import stat
 from collections.abc import Iterable, Iterator
 from typing import IO
 
-from . import children
+from . import children, own_folders
 from .refusals import Refused
 
 # What a new file is called, beside its place, until all are there.
@@ -68,7 +68,11 @@ class Tree:
                 raise Refused(f"{self.root / folder} leads out of {self.root} by a link: put a folder there, or name another prefix")
 
     def _expect_own(self, folder: str) -> None:
-        """Refuses a folder of another user or where all may write, from the prefix on: after a look at it, a link could take its place."""
+        """Refuses a folder of another user or where all may write, from the prefix on: after a look at it, a link could take its place. So it
+        could in what is above a new prefix, unless that has the sticky bit."""
+        above = next(filter(os.path.exists, (self.root, *self.root.parents)))
+        if above != self.root and not own_folders.is_held(above):
+            raise Refused(f"others may rename what is in {above}: do this as its owner, or name a folder of yours by --prefix")
         for it in (folder, *map(str, pathlib.PurePath(folder).parents)):
             path = os.path.normpath(self.root / it)
             try:

@@ -22,6 +22,8 @@ from . import own_folders
 PACKAGE = os.path.dirname(os.path.abspath(__file__))
 TOP = os.path.dirname(PACKAGE)
 LENGTH = 8
+# None but this user may write what is run, whatever the umask.
+FILE_MODE = 0o644
 
 
 def digest(content: bytes) -> bytes:
@@ -34,7 +36,7 @@ def write(path: str, content: bytes) -> None:
     """Writes a file as a whole, or nothing where that cannot be. Another start may do so at the same time."""
     written = f"{path}.{os.getpid()}"
     try:
-        with open(written, "wb") as file:
+        with open(written, "wb", opener=lambda name, flags: os.open(name, flags, FILE_MODE)) as file:
             file.write(content)
         os.replace(written, path)
     except OSError:

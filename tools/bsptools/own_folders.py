@@ -7,10 +7,15 @@ from __future__ import annotations
 
 import contextlib
 import os
+import pathlib
 import stat
 from collections.abc import Sequence
 
+from .refusals import Refused
+
 OTHERS_WRITE, OTHERS_MAY_WRITE = 0o022, "other users may write there"
+# Where programs that the tools start look for settings, among which may be commands: gdb, git, GNU parallel and MPI do.
+SETTINGS = ("HOME", "XDG_CONFIG_HOME", "XDG_DATA_HOME")
 # Who else may look into a folder that is made is up to its user's umask; none but this user may write there.
 MODE, PRIVATE = 0o755, 0o700
 
@@ -49,6 +54,33 @@ def is_held(path: str | os.PathLike[str]) -> bool:
     except OSError:
         return False
     return found.st_uid in (0, os.geteuid()) and not (found.st_mode & stat.S_IWOTH and not found.st_mode & stat.S_ISVTX)
+
+
+def expect_held(path: str | os.PathLike[str]) -> None:
+    """Refuses a new folder in one where others may rename what is there: while it is filled, a link could take its place."""
+    above = next(filter(os.path.exists, pathlib.Path(path).absolute().parents))
+    if not is_held(above):
+        raise Refused(f"others may rename what is in {above}: name another folder")
+
+
+def drop_homes_of_others() -> None:
+    """Takes the folders of settings out of the environment that are not this user's or root's, or where all may write, as those of whoever
+    called sudo. What the tools start would run commands from there; without HOME it finds this user's own."""
+    for variable in SETTINGS:
+        path = os.environ.get(variable, "")
+        if path and not (os.path.isabs(path) and _is_of_user(path)):
+            del os.environ[variable]
+
+
+def _is_of_user(path: str) -> bool:
+    """Whether a folder, or the nearest one above it that is there, belongs to this user or to root, and not all may write there."""
+    while not os.path.lexists(path):
+        path = os.path.dirname(path)
+    try:
+        found = os.stat(path)
+    except OSError:
+        return False
+    return found.st_uid in (0, os.geteuid()) and not found.st_mode & stat.S_IWOTH
 
 
 def make(path: str | os.PathLike[str]) -> str:

@@ -13,7 +13,7 @@ import subprocess
 import sys
 from collections.abc import Callable
 
-from . import children, python_packages, streams
+from . import children, own_folders, python_packages, streams
 from .files import GONE, is_here
 from .refusals import BUG, BY_SIGNAL, REFUSED, Refused, put, tell
 
@@ -104,13 +104,19 @@ def of_repository(name: str, work: Callable[[], int]) -> int:
         put("")
         return status
 
-    streams.prepare()
+    prepare()
     return ended(name, whole)
+
+
+def prepare() -> None:
+    """Makes this process ready to be a tool: its standard streams, and what it hands on to those that it starts."""
+    streams.prepare()
+    own_folders.drop_homes_of_others()
 
 
 def process(name: str, words: list[str]) -> int:
     """Runs a tool as a process of its own, which has standard streams of its own."""
-    streams.prepare()
+    prepare()
     return main(name, words)
 
 

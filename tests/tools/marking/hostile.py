@@ -109,14 +109,15 @@ from bsptools import start
 from bsptools.marking import bounded_run, trial_pool
 kind, run, each, tries = sys.argv[2], bounded_run.run, trial_pool.each, []
 FULL = b"cc1: fatal error: error writing to /tmp/cc.s: No space left on device"
+BUSY = b"gcc: fatal error: cannot execute 'cc1': posix_spawnp: Resource temporarily unavailable"
 def count(*given):
     tries.append(given)
     each(*given)
 def short(words, *rest, **given):
     if kind == "kills" and words[1] == "run":
         return bounded_run.Ran(bounded_run.ENDED, -9, b"", b"")
-    if kind == "full" and len(tries) == 1 and "-o" in words:
-        return bounded_run.Ran(bounded_run.ENDED, 1, b"", FULL)
+    if kind in ("full", "is busy") and len(tries) == 1 and "-o" in words:
+        return bounded_run.Ran(bounded_run.ENDED, 1, b"", FULL if kind == "full" else BUSY)
     return run(words, *rest, **given)
 bounded_run.run, trial_pool.each = short, count
 sys.exit(start.process("bspcheck", sys.argv[3:]))
@@ -131,11 +132,13 @@ def short(tally: Tally, folder: pathlib.Path) -> None:
     bench.write("sheet.toml", SHEET)
     bench.write("secret.txt", "it\n")
     bench.write("right.c", PROGRAM % ("", 'if (bsp_pid() == 0) puts("it");'))
+    bench.write("again.c", PROGRAM % ("", 'if (!bsp_pid()) puts("it");'))
     bench.write("says.c", "#error No space left on device\n")
     for kind, name, status, wanted in (
         ("full", "says.c", NOT_ALL_RIGHT, ("does not compile", "says.c, line 1: #error No space left on device")),
         ("kills", "right.c", NOT_MARKED, ("not judged", "it could not be tried: the run was killed, as where memory ran out")),
         ("full", "right.c", ALL_RIGHT, ("right", "")),
+        ("is busy", "again.c", ALL_RIGHT, ("right", "")),
     ):
         words = [sys.executable, "-I", "-B", "-c", SHORT, str(REPO / "tools"), kind, "--jobs", "1", "-o", "m.csv", "sheet.toml", name]
         done = subprocess.run(words, cwd=bench.folder, stdin=subprocess.DEVNULL, capture_output=True, text=True, timeout=SECONDS, check=False)
@@ -144,6 +147,33 @@ def short(tally: Tally, folder: pathlib.Path) -> None:
     for words, how, is_busy in ((STOPPED, bounded_run.ENDED, True), (LOOPS, bounded_run.LATE, True), (["sleep", "9"], bounded_run.LATE, False)):
         found = bounded_run.run(words, 1, 99, is_busy=is_busy).how
         tally.expect(f"{shlex.join(words)} in a second", found == how, found)
+
+
+# Two programs of which one prints nothing, and one in C++.
+PRINTS, SILENT = PROGRAM % ("", 'if (bsp_pid() == 0) puts("it");'), PROGRAM % ("", "")
+CLASSES = "#include <vector>\n" + PROGRAM.replace("#include <bsp.h>", 'extern "C" {\n#include <bsp.h>\n}') % (
+    "", 'std::vector<int> found(1); if (found.size() == 1 && bsp_pid() == 0) puts("it");')  # fmt: skip
+
+
+def names(tally: Tally, folder: pathlib.Path) -> None:
+    """A hand-in is marked by its own text, in its own language, whatever its name is: also that of a file of the sheet."""
+    bench = Bench(folder / "names")
+    bench.write("secret.txt", "it\n")
+    (bench.folder / "theirs").mkdir()
+    cases = [
+        ("theirs/prints.c", SILENT, "wrong output"), ("theirs/silent.c", PRINTS, "right"), ("theirs/hand_in.c", PRINTS, "right"),
+        ("theirs/prints.cpp", CLASSES, "right"), ("theirs/a blank.cpp", CLASSES, "right"), ("theirs/-dash.cc", CLASSES, "right"),
+        ("theirs/\u00fcber.cxx", CLASSES, "right"),
+    ]  # fmt: skip
+    for name, text, _ in cases:
+        bench.write(name, text)
+    for name, text in (("prints.c", PRINTS), ("hand_in.c", SILENT), ("silent.c", SILENT), ("prints.cpp", SILENT)):
+        bench.write(name, text)
+    bench.write("sheet.toml", f'{SHEET}files = ["prints.c", "hand_in.c", "silent.c", "prints.cpp"]\n')
+    done = bench.run("sheet.toml", *(it for it, _, _ in cases), words=["-o", "m.csv"])
+    found = {it["hand-in"]: it["verdict"] for it in bench.rows("m.csv")} if done.returncode == NOT_ALL_RIGHT else {}
+    for name, _, wanted in cases:
+        tally.expect(f"{name} by its own text", found.get(name) == wanted, (found, done.stderr))
 
 
 def links(tally: Tally, folder: pathlib.Path) -> None:
@@ -232,5 +262,6 @@ def parts(tally: Tally, folder: pathlib.Path) -> List[Part]:
         Part("hostile", lambda: tried(tally, folder), wanted),
         Part("compilers", lambda: compilers(tally, folder), wanted),
         Part("a host that is short of all", lambda: short(tally, folder), wanted),
+        Part("names of hand-ins", lambda: names(tally, folder), wanted),
         Part("links of hand-ins", lambda: links(tally, folder)),
     ]

@@ -65,9 +65,13 @@ def _called(number: int, *given: object) -> int:
     return answer
 
 
-def limit(memory: int, file: int, seconds: int) -> None:
-    """Bounds what each process that this one starts may take: bytes of address space and of a file that it writes, seconds of a processor."""
+def limit(memory: int, file: int, seconds: int) -> bool:
+    """Bounds what each process that this one starts may take: bytes of address space and of a file that it writes, seconds of a processor.
+    Answers whether the host lets them take less than that, as by `ulimit`."""
+    is_less = False
     for kind, most in ((resource.RLIMIT_AS, memory), (resource.RLIMIT_FSIZE, file), (resource.RLIMIT_CPU, seconds), (resource.RLIMIT_CORE, 0)):
         _, hard = resource.getrlimit(kind)
         bound = most if hard == resource.RLIM_INFINITY else min(most, hard)
+        is_less = is_less or bound < most
         resource.setrlimit(kind, (bound, hard))
+    return is_less

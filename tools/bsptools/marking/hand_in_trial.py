@@ -5,11 +5,12 @@ from __future__ import annotations
 import argparse
 import contextlib
 import errno
+import itertools
 import os
 import pathlib
 import re
 import signal
-from collections.abc import Iterator, Mapping
+from collections.abc import Collection, Iterator, Mapping
 from dataclasses import dataclass, field
 from typing import Dict, List, Optional, Tuple
 
@@ -48,7 +49,13 @@ ERRORS = re.compile(r"\b(?:fatal )?[eE]rror: |undefined reference")
 # What the compiler says where the host has given it too little: the disk is full, a process of it was killed, or none could be started. A
 # hand-in that has GCC say so itself is tried once more, and no more. The errors that tell the same; and that it was too slow.
 FULL = "No space left on device"
-LACK = re.compile(rf"{FULL}|Disk quota exceeded|^\S+: fatal error: Killed signal terminated program|[cC]annot fork|Too many open files")
+LACK = re.compile(
+    rf"{FULL}|Disk quota exceeded|^\S+: fatal error: Killed signal terminated program|[cC]annot fork|Too many open files"
+    r"|\b(?:fork|execute\b.*): Resource temporarily unavailable"
+)
+# What it says besides where this host lets it take less than a hand-in may; and how the emulator ends there.
+SCARCE = re.compile(r"(?:File size|CPU time) limit exceeded|out of memory allocating|memory exhausted|Cannot allocate memory|[mM]emory ran out")
+NO_MEMORY = 5
 LACKS = (errno.ENOSPC, errno.EDQUOT, errno.ENOMEM, errno.EAGAIN, errno.EMFILE, errno.ENFILE)
 SLOW = "the compiler took too long"
 SAFE = re.compile(r"[A-Za-z_][\w.-]{0,80}\.(?:c|cc|cpp|cxx)", re.ASCII)
@@ -96,10 +103,11 @@ class Plan:
 class Trial:
     """A trial of one hand-in, in the folder in which this process is."""
 
-    def __init__(self, plan: Plan, text: bytes, name: str, program: str) -> None:
-        self.plan, self.text, self.program = plan, text, program
+    def __init__(self, plan: Plan, text: bytes, name: str, program: str, is_scarce: bool) -> None:
+        # Whether the host lets a process take less than a hand-in may, as by `ulimit`.
+        self.plan, self.text, self.program, self.is_scarce = plan, text, program, is_scarce
         self.folder = pathlib.Path(os.getcwd())
-        self.name = name if SAFE.fullmatch(name) else "hand_in.c"
+        self.name = name_beside(name, {it for it, _ in plan.files} | {last_name(it) for run in plan.runs for it, _ in run.given})
         self.found = Evidence()
 
     def make(self) -> Evidence:
@@ -135,7 +143,7 @@ class Trial:
 
     def put(self, name: str, content: bytes) -> None:
         """A file of the sheet beside the hand-in, by its last name."""
-        (self.folder / pathlib.PurePath(name).name).write_bytes(content)
+        (self.folder / last_name(name)).write_bytes(content)
 
     # The compiler.
 
@@ -148,7 +156,7 @@ class Trial:
         is_built = ran.how == bounded_run.ENDED and ran.status == 0 and target.is_file()
         said = [it for it in ran.said.decode(errors="replace").replace(f"{self.folder}/", "").splitlines() if it.strip()]
         if not is_built:
-            self.found.lack = next((it for it in said if LACK.search(it)), SLOW if ran.how == bounded_run.LATE else "")
+            self.found.lack = next(filter(self.is_lack, said), SLOW if ran.how == bounded_run.LATE else "")
         if ran.how != bounded_run.ENDED:
             said.insert(0, f"the compiler was ended after {COMPILER_SECONDS} s")
         elif not is_built and not said:
@@ -159,6 +167,10 @@ class Trial:
             self.found.said = said[first if first >= MOST_LINES else 0 :][:MOST_LINES]
         self.found.is_built = is_built and (number == 0 or self.found.is_built)
         return target
+
+    def is_lack(self, line: str) -> bool:
+        """Whether the compiler says that the host has given it too little."""
+        return bool(LACK.search(line) or self.is_scarce and SCARCE.search(line))
 
     def compiler(self, defines: Tuple[Tuple[str, str], ...], *options: str) -> List[str]:
         """The words that compile the hand-in."""
@@ -193,7 +205,7 @@ class Trial:
         is_text = program.suffix != ".elf"
         constants = [f"-D{name}={value}" for name, value in run.defines] if is_text else None
         options = argparse.Namespace(
-            program=str(program), nodes=run.nodes, input=given, file=[pathlib.PurePath(name).name for name, _ in run.given], files=[],
+            program=str(program), nodes=run.nodes, input=given, file=[last_name(name) for name, _ in run.given], files=[],
             args=list(run.args), argv0="program", check=False, strict=False, compiled=constants,
             format="c" if is_text else "elf", bspemu=self.program,
             limit=run.limit, memory=self.plan.memory, stack=None, large=False, float=False, atomic=False, g=run.g, l=run.l,
@@ -214,6 +226,8 @@ class Trial:
         ran = bounded_run.run(words, self.plan.seconds, run.output + MOST_REPORT, is_busy=True)
         if ran.how == bounded_run.ENDED and ran.status == -signal.SIGKILL:
             self.found.lack = "the run was killed, as where memory ran out"
+        if self.is_scarce and ran.how == bounded_run.ENDED and ran.status == NO_MEMORY:
+            self.found.lack = "memory ran out, of which this host lets a process have less than the sheet does"
         ended, report = self.ended(job, ran, run.output)
         if report is None:
             return ended
@@ -304,6 +318,19 @@ class Trial:
             self.found.is_portable = found is None or not found.found
             return
         self.found.portable = [f"nothing came of it in {PATIENCE * 3} s"]
+
+
+def last_name(path: str) -> str:
+    """The last name of a path."""
+    return pathlib.PurePath(path).name
+
+
+def name_beside(name: str, taken: Collection[str]) -> str:
+    """The name under which a hand-in is compiled. It is its own, unless the compiler could read that as something else, or the sheet has a file
+    of that name, which would stand in its place. The last part of it says whether it is C or C++."""
+    end = pathlib.PurePath(name).suffix
+    others = (f"hand_in{number or ''}{end}" for number in itertools.count())
+    return next(it for it in itertools.chain([name], others) if SAFE.fullmatch(it) and it not in taken)
 
 
 def compiler_environment(folder: pathlib.Path) -> Mapping[str, str]:

@@ -24,7 +24,7 @@ from ..sealed_results import digest
 from . import bounded_run, compiler_files, confinement, trial_pool, wanted_file
 from .evidence import Evidence, of_json
 from .evidence_store import Store, folder_at
-from .hand_in_trial import COMPILER_SECONDS, ERRORS, FULL, MOST_TEXT, SLOW, Plan, RunPlan, Trial, compiler_environment
+from .hand_in_trial import COMPILER_SECONDS, ERRORS, FULL, MOST_TEXT, SLOW, Plan, RunPlan, Trial, compiler_environment, last_name
 from .marks import UNJUDGED, WRONG, Judgement, Marks, Wanted, faults_of_solution, marks, wanted_of
 from .sheet import ALONE, INSTRUCTIONS, TIMES, Run, Sheet, settings_of
 from .sheet_inputs import SECONDS, Inputs, words_of
@@ -138,7 +138,7 @@ class Marking:
         """The plan of a trial: without bounds, and with much more room, where what is wanted is not known yet."""
         sheet = self.sheet
         runs = tuple(self.run_plan(run, wanted[number] if wanted else None) for number, run in enumerate(sheet.runs))
-        files = tuple((pathlib.PurePath(it).name, named_content(sheet.file(it), MOST_INPUT)) for it in sheet.files)
+        files = tuple((last_name(it), named_content(sheet.file(it), MOST_INPUT)) for it in sheet.files)
         return Plan(
             runs, files, (*sheet.forbid, *sheet.require), sheet.memory, sheet.seconds, sheet.strict, sheet.races, sheet.portable,
         )  # fmt: skip
@@ -262,10 +262,10 @@ class Marking:
         nowhere = os.open(os.devnull, os.O_RDWR)
         for number in (0, 1, 2):
             os.dup2(nowhere, number)
-        confinement.limit(plan.most_memory, MOST_FILE, COMPILER_SECONDS + (len(plan.runs) + 4) * plan.seconds)
+        is_scarce = confinement.limit(plan.most_memory, MOST_FILE, COMPILER_SECONDS + (len(plan.runs) + 4) * plan.seconds)
         if self.is_confined:
             confinement.confine(self.readable(), [str(folder), os.devnull])
-        return Trial(plan, it.text, last_name(it.name), self.program).make().as_json()
+        return Trial(plan, it.text, last_name(it.name), self.program, is_scarce).make().as_json()
 
     def readable(self) -> Iterator[str]:
         """What may be read: the compiler, the library, the emulator, and the parts of these tools."""
@@ -402,11 +402,6 @@ def tool(name: str) -> str:
     path = emulator.program(name)
     near = os.path.join(".", os.path.relpath(path))
     return near if not near.startswith("./..") else name if shutil.which(name) else path
-
-
-def last_name(path: str) -> str:
-    """The last name of a path."""
-    return pathlib.PurePath(path).name
 
 
 def tell_known(marking: Marking, count: int) -> None:

@@ -98,8 +98,21 @@ class Reader:
             raise Refused(*(f"{self.path}:{line}:{column}: {what}" for (line, column), what in sorted(self.wrong)))
         return found
 
+    def expect_apart(self, sheet: Sheet) -> None:
+        """Notes files that would stand beside a hand-in in the place of one another."""
+        for at, case in enumerate(sheet.cases):
+            known: Dict[str, str] = {}
+            for key, it in [*(("files", it) for it in sheet.files), *(("give", it) for it in case.given)]:
+                name = os.path.basename(it)
+                other = known.setdefault(name, it)
+                if sheet.file(other) != sheet.file(it):
+                    of_case: Path = ("case", at, key)
+                    where = of_case if of_case in self.places.found else of_case[2:]
+                    self.note(where, f"{other} and {it} would both be {name} beside the hand-in: give one of them another name")
+
     def expect_whole(self, sheet: Sheet) -> None:
         """Notes what the parts of a sheet do not have together."""
+        self.expect_apart(sheet)
         if sheet.solution and not sheet.wanted:
             self.file(("solution",), sheet.solution)
         has_wanted = sheet.solution or sheet.wanted or sheet.checker or all(it.expected for it in sheet.cases)
@@ -207,7 +220,10 @@ class Reader:
     def note(self, path: Path, what: str, more: int = 0) -> None:
         """Notes what is wrong, at the place of a value, or so many columns behind it."""
         line, column = self.places.of(path)
-        self.wrong.append(((line, column + more), what))
+        noted = (line, column + more), what
+        # What stands at the top holds for each case.
+        if noted not in self.wrong:
+            self.wrong.append(noted)
 
     def expect_keys(self, path: Path, table: Dict[str, Any], known: Iterable[str]) -> None:
         """Notes the keys that nothing knows: most are misspelled."""

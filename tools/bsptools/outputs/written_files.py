@@ -8,7 +8,7 @@ import stat
 import struct
 from collections.abc import Iterator, Sequence
 
-from ..files import beside_name, is_same
+from ..files import Folder, beside_name, is_same
 from ..refusals import Refused, about, counted
 from .output_records import BYTES, NAME, REMOVED, SIZE, Record
 
@@ -96,7 +96,7 @@ class Files:
         """The rank that wrote each file first, by the name by which it knows it."""
         return {file_name(it.name): it.rank for it in reversed(list(self.files.values()))}
 
-    def put(self, folder: str, kept: dict[str, str], given: dict[bytes, bytes]) -> list[str]:
+    def put(self, folder: Folder, kept: dict[str, str], given: dict[bytes, bytes]) -> list[str]:
         """Puts the files below a folder, those of one name one behind another by their ranks. Nothing is put in the place of files that are
         kept, each with what it is. What ranks add to a file that was given stands behind it once. Lines of what is to be said of that."""
         lines: list[str] = []
@@ -104,7 +104,7 @@ class Files:
         for it in self.files.values():
             others = found.setdefault(it.parts, [])
             if not it.parts:
-                lines.append(f"{file_name(it.name)} was not written: that is not a file below {folder}, where files go: use a name below it")
+                lines.append(f"{file_name(it.name)} was not written: that is not a file below {folder.name}, where files go: use a name below it")
             elif any(other.rank == it.rank for other in others):
                 lines.append(f"{file_name(it.name)} was not written: rank {it.rank} wrote {file_name(others[0].name)}, which is the same file")
             else:
@@ -116,7 +116,7 @@ class Files:
             without_given(ranks[1:], given)
             try:
                 lines += put_one(folder, parts, ranks, kept)
-                self.names.append(os.path.normpath(os.path.join(folder, *parts)))
+                self.names.append(os.path.normpath(os.path.join(folder.name, *parts)))
             except Refused as refused:
                 lines.append(f"{refused} ({file_name(of_ranks[0].name)} was not written)")
                 self.is_put = False
@@ -154,9 +154,9 @@ def ends_alike(one: bytes, other: bytes) -> bool:
 
 
 @contextlib.contextmanager
-def opened(folder: str, names: Sequence[str]) -> Iterator[int]:
+def opened(folder: Folder, names: Sequence[str]) -> Iterator[int]:
     """A folder below another one, which is made where it is missing. A link on the way is refused, and not followed."""
-    place, path = os.open(folder, os.O_RDONLY | os.O_DIRECTORY), folder
+    place, path = os.open(os.curdir, os.O_RDONLY | os.O_DIRECTORY, dir_fd=folder.number), folder.name
     try:
         for name in names:
             path = os.path.join(path, name)
@@ -172,16 +172,17 @@ def opened(folder: str, names: Sequence[str]) -> Iterator[int]:
 
 
 def keep_mode(number: int, name: str, place: int) -> None:
-    """Gives a file the rights of the one whose place it takes, if that is a file and no link."""
+    """Gives a file the rights of the one whose place it takes, if that is a file of this user's, and no link: another user would choose who
+    may write it."""
     with contextlib.suppress(OSError):
         before = os.stat(name, dir_fd=place, follow_symlinks=False)
-        if stat.S_ISREG(before.st_mode):
+        if stat.S_ISREG(before.st_mode) and before.st_uid == os.geteuid():
             os.fchmod(number, stat.S_IMODE(before.st_mode) & 0o777)
 
 
-def put_one(folder: str, names: tuple[str, ...], parts: list[Written], kept: dict[str, str]) -> list[str]:
+def put_one(folder: Folder, names: tuple[str, ...], parts: list[Written], kept: dict[str, str]) -> list[str]:
     """Puts a file below a folder, in the place of one of its name: a link there is replaced, and not followed."""
-    target = os.path.normpath(os.path.join(folder, *names))
+    target = os.path.normpath(os.path.join(folder.name, *names))
     for other, what in kept.items():
         if is_same(target, other):
             raise Refused(f"{target} stays as it is: {what} {other}")

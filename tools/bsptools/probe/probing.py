@@ -36,13 +36,19 @@ class Setting(NamedTuple):
 
 def called(words: Sequence[str], p: int) -> bytes:
     """What a command has printed on p processes. What it says on standard error is shown as it comes."""
+    environment = {**os.environ, "BSP_PROCS": str(p)}
     try:
-        done = children.call(words, stdout=subprocess.PIPE, env={**os.environ, "BSP_PROCS": str(p)})
+        with children.kept_running(words, stdin=subprocess.DEVNULL, stdout=subprocess.PIPE, env=environment) as child:
+            assert child.stdout is not None
+            printed = child.stdout.read(samples.MOST_PRINTED + 1)
+            if len(printed) > samples.MOST_PRINTED:
+                raise Refused(f"{shlex.join(words)} printed more than {samples.MOST_PRINTED} bytes on {p} processes, which are no samples")
+            status = child.wait()
     except OSError as error:
         raise Refused(f"{words[0]}: {error.strerror}") from error
-    if done.returncode != 0:
-        raise Refused(f"{shlex.join(words)} ended with status {done.returncode} on {p} processes")
-    return done.stdout
+    if status != 0:
+        raise Refused(f"{shlex.join(words)} ended with status {status} on {p} processes")
+    return printed
 
 
 def compiled(folder: pathlib.Path, is_mpi: bool) -> str:
@@ -51,7 +57,9 @@ def compiled(folder: pathlib.Path, is_mpi: bool) -> str:
         raise Refused(f"{SOURCE} is missing: start bspprobe in a checkout or an installation, or give a program by --program")
     path = str(folder / "probe")
     words = [str(LIBRARY / "cc"), *["--mpi"] * is_mpi, "-O2", "-o", path, str(SOURCE)]
-    done = children.call(words, stdout=subprocess.PIPE, stderr=subprocess.STDOUT)
+    # What a compiler leaves that was killed is beside the executable.
+    environment = {**os.environ, "TMPDIR": str(folder)}
+    done = children.call(words, stdout=subprocess.PIPE, stderr=subprocess.STDOUT, env=environment)
     if done.returncode != 0:
         raise Refused("the program that measures was not compiled", *lines_of(done.stdout))
     return path

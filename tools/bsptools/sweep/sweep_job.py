@@ -12,7 +12,7 @@ import time
 from typing import Any
 
 from .. import children, emulator
-from ..files import content_of, own_content, put
+from ..files import believed_content, content_of, put
 from ..limits import MOST_PROGRAM, MOST_TABLE
 from ..outputs.report_formats import read
 from ..refusals import REFUSED, Refused
@@ -51,7 +51,7 @@ def make(folder: str, copy: str) -> int:
 def described(place: Place) -> dict[str, Any]:
     """The description of a run."""
     try:
-        job: dict[str, Any] = json.loads(own_content(place.job, MOST_TABLE))
+        job: dict[str, Any] = json.loads(believed_content(place.job, MOST_TABLE))
         if job.keys() >= {"emulator", "folder", "words", "image", "args", "digests"}:
             return job
     except (ValueError, AttributeError, RecursionError):

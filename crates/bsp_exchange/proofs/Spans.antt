@@ -1,10 +1,10 @@
 -- Patches that lie within a span.
-use Rattle.std.proofs.Common.{ℕ, ◌+◌, ◌^◌, ◌<◌, ◌≤◌, suc, Bool, List, [], ◌∷◌, length, get_or, ap, ◌∙◌, inl, inr, arith}
+use Rattle.std.proofs.Common.{ℕ, ◌+◌, ◌-◌, ◌^◌, ◌<◌, ◌≤◌, suc, Bool, List, [], ◌∷◌, length, get_or, ap, ◌∙◌, inl, inr, arith}
 use Rattle.std.specs.Prelude.{IsTrue}
 use Rattle.std.proofs.lemmas.Bool.{cases_eq}
 use Rattle.std.proofs.lemmas.Bool.Decides.{nat_tests}
 use Rattle.node_memory.specs.Bytes.{fits}
-use Rattle.node_memory.specs.Pages.{Owns}
+use Rattle.node_memory.specs.Pages.{HasOneOf, Owns}
 use Rattle.node_core.specs.Hart.{Hart, IsHart}
 use Rattle.bsp_exchange.specs.declared.span.Span.{Span}
 use Rattle.bsp_exchange.specs.Parts.{Patch, OwnsEach}
@@ -41,7 +41,20 @@ owns_spanned private s (p ∷ patches) owned all =
       owns_spanned private s patches owned (λ k d less within. all (suc k) d (omega arith) (omega arith)),
     )
 
-end_within : (size addr len : ℕ) → IsTrue (fits size addr len) → addr + len ≤ size
+-- a range within a span of private pages is private
+pub owned_within : (private : List Bool) (s : Span) (addr len : ℕ) → Owns private s.low (s.end - s.low) → s.low ≤ addr → addr + len ≤ s.end
+    → Owns private addr len
+owned_within private s addr len owns above below = record {
+  within = (let whole = owns.within in omega arith);
+  pages = λ page (has : HasOneOf addr len page).
+      owns.pages page (record {
+        some = (let some = has.some in omega arith);
+        begins_before_end = (let begins = has.begins_before_end in omega arith);
+        ends_after_begin = (let ends = has.ends_after_begin in omega arith);
+      });
+}
+
+pub end_within : (size addr len : ℕ) → IsTrue (fits size addr len) → addr + len ≤ size
 end_within size addr len within = grind (arith, nat_tests)
 
 -- a node's memory has at most 2 ^ 31 bytes

@@ -88,8 +88,7 @@ impl<A: Allocator + Copy> Arrivals<A> {
     {
         if self.puts.is_empty() {
             if let Some(few) = bytes.within_16() {
-                let room = few.0;
-                return self.small_puts.push(addr, room, few.1);
+                return self.small_puts.push(addr, few.0, few.1);
             }
         }
         self.puts.push(addr, bytes)

@@ -110,4 +110,9 @@ impl<A: Allocator> PatchList for Landings<A> {
         let range = self.ranges[place];
         &self.bytes[range.start..range.start + range.len as usize]
     }
+
+    #[inline(always)]
+    fn few(&self, _: usize) -> Option<([u8; 16], u32)> {
+        None
+    }
 }

@@ -106,4 +106,9 @@ impl<A: Allocator> PatchList for Puts<A> {
     fn bytes(&self, place: usize) -> &[u8] {
         self.patches[place].bytes.as_slice()
     }
+
+    #[inline(always)]
+    fn few(&self, _: usize) -> Option<([u8; 16], u32)> {
+        None
+    }
 }

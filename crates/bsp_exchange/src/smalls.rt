@@ -63,14 +63,18 @@ impl<A: Allocator + Copy> Smalls<A> {
     /// # Errors
     /// Where memory is refused.
     #[inline(always)]
-    pub(crate) fn push(&mut self, addr: u32, room: [u8; 16], len: u32) -> Result<(), AllocError>
+    pub(crate) fn push(&mut self, addr: u32, room: &[u8; 16], len: u32) -> Result<(), AllocError>
         requires { len ≤ 16 }
-        ensures ok { OnOk result (self.new ≡ self.old ++ record { addr = addr; bytes = take len room } ∷ []) }
+        ensures ok { OnOk result (self.new ≡ self.old ++ record { addr = addr; bytes = take len room.now } ∷ []) }
     {
         if self.patches.len() == self.patches.capacity() {
             grow(&mut self.patches, self.expected)?;
         }
-        self.patches.push_reserved(Small { addr, len, room });
+        self.patches.push_reserved(Small {
+            addr,
+            len,
+            room: *room,
+        });
         Ok(())
     }
 
@@ -97,5 +101,12 @@ impl<A: Allocator> PatchList for Smalls<A> {
     fn bytes(&self, place: usize) -> &[u8] {
         let patch = &self.patches[place];
         &patch.room[..patch.len as usize]
+    }
+
+    #[inline(always)]
+    fn few(&self, place: usize) -> Option<([u8; 16], u32)> {
+        let patch = &self.patches[place];
+        let room = patch.room;
+        Some((room, patch.len))
     }
 }

@@ -1,6 +1,6 @@
 //! The range that has all of some ranges.
 
-ghost use Rattle.std.specs.Prelude.{ℕ, ◌+◌, ◌<◌, ◌≤◌, ◌^◌, IsTrue};
+ghost use Rattle.std.specs.Prelude.{◌≡◌, ℕ, ◌+◌, ◌-◌, ◌/◌, ◌<◌, ◌≤◌, ◌^◌, ◌↔◌, IsTrue};
 ghost use Rattle.node_memory.specs.Pages.{Owns};
 
 use node_memory::Memory;
@@ -15,7 +15,9 @@ pub(crate) struct Span {
 
 impl Span {
     /// That of no ranges.
-    pub(crate) fn of_none() -> Span {
+    pub(crate) fn of_none() -> Span
+        ensures { result.end ≡ 0 }
+    {
         Span {
             low: u32::MAX,
             end: 0,
@@ -27,11 +29,34 @@ impl Span {
         requires { addr + len < 2 ^ 32 }
         ensures has { (result.low ≤ addr) × (addr + len ≤ result.end) }
         ensures more { (result.low ≤ self.low) × (self.end ≤ result.end) }
+        ensures most { (size : ℕ) → self.end ≤ size → addr + len ≤ size → result.end ≤ size }
     {
         Span {
             low: self.low.min(addr),
             end: self.end.max(addr + len),
         }
+    }
+
+    /// Whether it has bytes, all of them in one page.
+    pub(crate) fn is_in_one_page(self) -> bool
+        ensures { IsTrue result ↔ ((self.low < self.end) × (self.low / 4096 ≡ (self.end - 1) / 4096)) }
+    {
+        self.low < self.end && self.low / 0x1000 == (self.end - 1) / 0x1000
+    }
+
+    /// Its lowest address.
+    pub(crate) fn low(self) -> u32
+        ensures { result ≡ self.low }
+    {
+        self.low
+    }
+
+    /// How many bytes it has, where it has some.
+    pub(crate) fn len(self) -> u32
+        requires { self.low ≤ self.end }
+        ensures { result ≡ self.end - self.low }
+    {
+        self.end - self.low
     }
 
     /// Whether all of it lies in a memory, in private pages, and so each of its ranges does. Where there are none, it says no.

@@ -178,10 +178,10 @@ impl<A: Allocator> SharedBytes<A> {
     }
 
     /// Where they are at most 16, sixteen bytes of which they are the first, and how many they are.
-    // For speed: a value of a known size is copied without a call.
+    // For speed: a value of a known size is copied without a call, and by whoever gets it, so that it is copied once.
     #[inline(always)]
-    pub fn within_16(&self) -> Option<([u8; 16], u32)>
-        ensures first { IfSome result (λ few. take few.1 few.0 ≡ self.now) }
+    pub fn within_16(&self) -> Option<(&[u8; 16], u32)>
+        ensures first { IfSome result (λ few. take few.1 few.0.now ≡ self.now) }
         ensures most { IfSome result (λ few. few.1 ≤ 16) }
     {
         match &self.held {
@@ -189,7 +189,7 @@ impl<A: Allocator> SharedBytes<A> {
                 if within.len > 16 {
                     return None;
                 }
-                let few = *within.room.first_chunk::<16>()?;
+                let few = within.room.first_chunk::<16>()?;
                 Some((few, u32::from(within.len)))
             }
             Held::Shared(_) => None,

@@ -1,4 +1,4 @@
-Counts, contested bytes, output by supersteps and checkpoints of a large machine are those that a usual one has.
+Counts, contested bytes, exposed bytes, output by supersteps and checkpoints of a large machine are those that a usual one has.
 
   $ run() { bspemu run bench/neighbours.s --format asm --nodes 2048 --memory 16384 --large "$@"; }
   $ run --report --ledger 1
@@ -11,6 +11,8 @@ Counts, contested bytes, output by supersteps and checkpoints of a large machine
   61442
   2,2047,00000078,1
   $ run --contested contested && wc -l < contested
+  1
+  $ run --exposed exposed && wc -l < exposed
   1
   $ run --live
   $ bspemu debug bench/neighbours.s --format asm --nodes 2048 --memory 16384 --large --framed <<'END'

@@ -48,18 +48,16 @@ impl<A: Allocator> Memory<A> {
 
     /// Sixteen bytes of which the first are the `len` bytes from `addr` on, which lie in the memory: where these are some and at most 16,
     /// and stand at least 16 before the end of their page.
-    // For speed: a value of a known size is copied without a call.
+    // For speed: a value of a known size is copied without a call, and by whoever gets it, so that it is copied once.
     #[inline(always)]
-    pub fn read_16(&self, addr: u32, len: u32) -> Option<[u8; 16]>
+    pub fn read_16(&self, addr: u32, len: u32) -> Option<&[u8; 16]>
         requires { IsTrue (fits (length self.now.bytes) addr len) }
-        ensures first { IfSome result (λ few. take len few ≡ bytes_at self.now.bytes addr len) }
+        ensures first { IfSome result (λ few. take len few.now ≡ bytes_at self.now.bytes addr len) }
         ensures most { IfSome result (λ few. len ≤ 16) }
     {
         let at = addr as usize;
         if len != 0 && len <= 16 && at % PAGE <= PAGE - 16 {
-            let mut few = [0; 16];
-            few.copy_from_slice(self.window(at, 16));
-            Some(few)
+            self.window(at, 16).first_chunk::<16>()
         } else {
             None
         }

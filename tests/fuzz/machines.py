@@ -6,6 +6,7 @@ import dataclasses
 from typing import Callable, Dict, List, Optional, Tuple
 
 from fuzz.contested import Landing
+from fuzz.exposed import Bytes, Transfer
 from fuzz.harts import WORD, Hart
 from fuzz.images import Segment
 from fuzz.reports import Machine
@@ -17,7 +18,8 @@ STEPS = 30_000
 
 @dataclasses.dataclass
 class Request:
-    """A put, a get or a message, with the bytes that it moves."""
+    """A put, a get or a message, with the bytes that it moves. `called` is the name of the call, of which puts and gets have two, and `pc` where
+    in the code it is made. A put and a message read at `place`, and its tag at `tag_place`."""
 
     kind: str
     target: int
@@ -27,6 +29,9 @@ class Request:
     place: int = 0
     content: bytes = b""
     tag: bytes = b""
+    called: str = ""
+    pc: int = 0
+    tag_place: int = 0
 
 
 class Node(Hart):
@@ -135,7 +140,8 @@ class Node(Hart):
         if not found:
             return "NotRegistered"
         content = bytes(self.memory[place:place + length]) if kind == "put" else b""
-        return self.ask(Request(kind, target, length, found[-1], offset, place, content), length)
+        called = f"hp{kind}" if self.x[17] in (9, 10) else kind
+        return self.ask(Request(kind, target, length, found[-1], offset, place, content, b"", called, self.pc), length)
 
     def put(self, target: int, source: int, name: int, offset: int, length: int) -> str:
         """put(pid, src, dst, offset, n)"""
@@ -162,7 +168,8 @@ class Node(Hart):
         if not self.fits(tag, self.tag) or not self.fits(payload, length):
             return "RangeOutside"
         made = bytes(self.memory[payload:payload + length]), bytes(self.memory[tag:tag + self.tag])
-        return self.ask(Request("send", target, self.tag + length, content=made[0], tag=made[1]), self.tag + length)
+        asked = Request("send", target, self.tag + length, 0, 0, payload, *made, "send", self.pc, tag)
+        return self.ask(asked, self.tag + length)
 
     def qsize(self, packets: int, size: int, *_: int) -> str:
         """qsize(packets, bytes)"""
@@ -224,12 +231,13 @@ class Node(Hart):
 
 @dataclasses.dataclass
 class End:
-    """What a run writes, its report, its nodes at the end, and what landed in each exchange."""
+    """What a run writes, its report, its nodes at the end, what landed in each exchange, and what its calls had read and written."""
 
     output: bytes
     report: bytes
     nodes: List[Node]
     landings: List[List[Landing]]
+    transfers: List[List[Transfer]]
 
 
 def registers_of(node: Node) -> bytes:
@@ -288,6 +296,23 @@ def landings_of(nodes: List[Node]) -> List[Landing]:
     return gets + puts
 
 
+def transfers_of(nodes: List[Node]) -> List[Transfer]:
+    """What the calls of an exchange without a fault read and write. A message reads its tag and its payload."""
+    found: List[Transfer] = []
+    for node in nodes:
+        for number, asked in enumerate(node.requests):
+            writes: Optional[Bytes] = None
+            if asked.kind == "send":
+                reads: List[Bytes] = [(node.rank, at, at + len(it)) for at, it in ((asked.tag_place, asked.tag), (asked.place, asked.content))]
+            else:
+                here = node.rank, asked.place, asked.place + asked.length
+                start = nodes[asked.target].areas[asked.area][0] + asked.offset
+                there = asked.target, start, start + asked.length
+                reads, writes = ([here], there) if asked.kind == "put" else ([there], here)
+            found += [Transfer(node.rank, number, asked.called, asked.pc, it, writes) for it in reads]
+    return found
+
+
 def exchange(nodes: List[Node]) -> Tuple[int, int]:
     """Makes an exchange without a fault, and answers h and the most messages."""
     sent, received, messages = [0] * len(nodes), [0] * len(nodes), [0] * len(nodes)
@@ -336,6 +361,7 @@ def end_of(entry: int, segments: List[Segment], machine: Machine, text: bytes) -
     nodes = [Node(entry, bytearray(memory), rank, machine, text) for rank in range(machine.nodes)]
     output, lines, total, steps = b"", b"", 0, 0
     landings: List[List[Landing]] = []
+    transfers: List[List[Transfer]] = []
     while True:
         work = 0
         for node in nodes:
@@ -351,6 +377,7 @@ def end_of(entry: int, segments: List[Segment], machine: Machine, text: bytes) -
             node.output = b""
         outcome = outcome_of(nodes)
         landings += [landings_of(nodes)] if outcome is None else []
+        transfers += [transfers_of(nodes)] if outcome is None else []
         moved, messages = exchange(nodes) if outcome is None else (0, 0)
         total += work + machine.g * moved + machine.l
         for node in nodes:
@@ -358,4 +385,4 @@ def end_of(entry: int, segments: List[Segment], machine: Machine, text: bytes) -
         row = (lines.count(b"\n"), work, moved, messages, b"last" if outcome else b"turned")
         lines += b"superstep %d: w %d h %d m %d %s\n" % row
         if outcome:
-            return End(output, lines + f"total {total}\n{outcome}\n".encode(), nodes, landings)
+            return End(output, lines + f"total {total}\n{outcome}\n".encode(), nodes, landings, transfers)

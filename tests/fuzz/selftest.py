@@ -57,6 +57,9 @@ CHANGES = {
     "a profile of other bytes": ("program", "case $* in *profile*) sed -i 's/^\\(0,0,,\\)/\\11/' \"$here/profile\" ;; esac"),
     "a contested byte told twice": ("program", "case $* in *contested*) sed -i '$p' \"$here/contested\" ;; esac"),
     "a superstep's contested bytes in the next one": ("program", "case $* in *contested*) sed -i 's/^1,/2,/' \"$here/contested\" ;; esac"),
+    "exposed bytes told twice": ("program", "case $* in *exposed*) sed -i '$p' \"$here/exposed\" ;; esac"),
+    "no line of exposed bytes": ("program", "case $* in *exposed*) sed -i '2,$d' \"$here/exposed\" ;; esac"),
+    "another request that exposes bytes": ("program", "case $* in *exposed*) sed -i '2,$s/,[0-9]*\\(,[0-9a-f]*\\)$/,9999\\1/' \"$here/exposed\" ;; esac"),
     "an image changed by a run": ("words", "[ \"$1\" = run ] && [ -f \"$here/image\" ] && echo >>\"$here/image\""),
 }
 MOST = 100

@@ -6,7 +6,7 @@ import dataclasses
 import re
 from typing import List, Optional, Tuple
 
-from fuzz import contested, machines, reports
+from fuzz import contested, exposed, machines, reports
 from fuzz.bench import Trial
 from fuzz.images import Segment
 from fuzz.machines import End
@@ -56,9 +56,12 @@ def run_in_ways(trial: Trial, image: str, machine: Machine, loaded: Image, more:
     trial.expect(reports.fault_of_report(report, machine, told.status))
     beside = trial.run(*words, "--report", *way(trial), "--contested", "contested")
     trial.expect_that(beside.same_as(told), "a run that tells what is contested gives another answer")
+    beside = trial.run(*words, "--report", *way(trial), "--exposed", "exposed")
+    trial.expect_that(beside.same_as(told), "a run that tells what is exposed gives another answer")
     end = machines.end_of(*loaded, machine, trial.read(machine.input) or b"" if machine.input else b"")
     if end:
         trial.expect(contested.fault_of(trial.read("contested") or b"", end.landings))
+        trial.expect(exposed.fault_of(trial.read("exposed") or b"", end.transfers))
         trial.expect_that(told.stdout == end.output + end.report, f"the model has {(end.output + end.report)[-200:]!r}")
     return Run(plain.stdout, report, end)
 

@@ -42,7 +42,7 @@ class Line:
     is_large: bool = False
     image: str = "image"
     input: Optional[str] = None
-    beside: Optional[str] = None  # the file of a profile, of counts or of what is contested
+    beside: Optional[str] = None  # the file of a profile, of counts, of what is contested or exposed
     tells: str = ""  # which of these
 
 
@@ -94,7 +94,7 @@ def files(chance: random.Random, made: Line, parts: List[List[Word]]) -> None:
         parts.append(option(chance, "input", made.input))
     if made.subcommand == "run" and chance.randrange(4) == 0:
         made.beside = chance.choice(["profile", "profile", "image", "./image", "folder", "folder/profile", "absent/profile"])
-        made.tells = chance.choice(["profile", "counts", "contested"])
+        made.tells = chance.choice(["profile", "counts", "contested", "exposed"])
         parts.append(option(chance, made.tells, made.beside))
     if made.subcommand == "run" and chance.randrange(6) == 0:
         parts.append(["--live"])

@@ -9,6 +9,7 @@ use Rattle.bsp_session.specs.declared.job.Format.TheVariants.{Asm}
 use Rattle.bsp_session.specs.Contested.{Contests, IsErrorOfContested}
 use Rattle.bsp_session.specs.Conversion.{AnswersAssembly, AnswersListing, Conversion, IsErrorOfAssembly, IsErrorOfListing}
 use Rattle.bsp_session.specs.Counts.{Counts, IsErrorOfCounted}
+use Rattle.bsp_session.specs.Exposed.{Exposes, IsErrorOfExposed}
 use Rattle.bsp_session.specs.Live.{IsErrorOfLive}
 use Rattle.bsp_session.specs.Profiles.{IsErrorOfProfiled, Profiles}
 use Rattle.bsp_session.specs.Session.{IsErrorOf, Reports, Session as BatchSession}
@@ -17,7 +18,7 @@ use Rattle.bspemu.specs.declared.options.AsmOptions.{AsmOptions}
 use Rattle.bspemu.specs.declared.options.DebugOptions.{DebugOptions}
 use Rattle.bspemu.specs.declared.options.ListOptions.{ListOptions}
 use Rattle.bspemu.specs.declared.options.MachineOptions.{MachineOptions}
-use Rattle.bspemu.specs.declared.options.OutputMode.TheVariants.{AtEnd, Live, WithContested, WithCounts, WithProfile}
+use Rattle.bspemu.specs.declared.options.OutputMode.TheVariants.{AtEnd, Live, WithContested, WithCounts, WithExposed, WithProfile}
 use Rattle.bspemu.specs.Program.{AnswersLines, IsAnswerOfAsm, IsAnswerOfDebug, IsAnswerOfList}
 use Rattle.bspemu.specs.Program.{IsAnswerOfRun, IsDebugError, answer_of_end, answer_of_session}
 
@@ -48,6 +49,12 @@ pub answer_of_contested : (o : MachineOptions) (file : Bor Text) (s : BatchSessi
     → IfOk r (Contests s contested) → IfErr r (IsErrorOfContested s contested) → IsAnswerOfRun o (WithContested file) (answer_of_session r)
 answer_of_contested o file s contested (Ok outcome) same ok err = (s, same, (contested, ok))
 answer_of_contested o file s contested (Err e) same ok err = (s, same, (contested, err))
+
+pub answer_of_exposed : (o : MachineOptions) (file : Bor Text) (s : BatchSession) (exposed : Stream) (r : Result Outcome SessionError)
+    → s.job ≡ o.job
+    → IfOk r (Exposes s exposed) → IfErr r (IsErrorOfExposed s exposed) → IsAnswerOfRun o (WithExposed file) (answer_of_session r)
+answer_of_exposed o file s exposed (Ok outcome) same ok err = (s, same, (exposed, ok))
+answer_of_exposed o file s exposed (Err e) same ok err = (s, same, (exposed, err))
 
 pub answer_of_debug : (o : DebugOptions) (r : Result (Unit {0}) SessionError) → OnOk r (AnswersLines o.framed o.machine.job)
     → IfErr r (IsDebugError o.framed o.machine.job) → IsAnswerOfDebug o (answer_of_end r)

@@ -81,9 +81,9 @@ machine_app name formats =
 -- `run IMAGE` with its options
 abbrev pub run_app : NameList → App
 run_app formats =
-    with_rule (with_rule (with_rule (with_rule (with_rule (with_rule (with_rule (machine_app (codes "run") formats)
+    with_rule (with_rule (with_rule (with_rule (with_rule (with_rule (with_rule (with_rule (machine_app (codes "run") formats)
     (flag_rule (codes "report"))) (flag_rule (codes "live"))) workers_rule) slice_rule) (option_rule (codes "profile")))
-    (option_rule (codes "counts"))) (option_rule (codes "contested"))
+    (option_rule (codes "counts"))) (option_rule (codes "contested"))) (option_rule (codes "exposed"))
 
 -- `debug IMAGE` with its options
 abbrev pub debug_app : NameList → App

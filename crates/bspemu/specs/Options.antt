@@ -17,7 +17,7 @@ use Rattle.machine_core.specs.declared.settings.Settings.{Settings}
 use Rattle.bspemu.specs.declared.options.MachineOptions.{MachineOptions}
 use Rattle.bspemu.specs.declared.options.RunOptions.{RunOptions}
 use Rattle.bspemu.specs.declared.options.OutputMode.{OutputMode}
-use Rattle.bspemu.specs.declared.options.OutputMode.TheVariants.{AtEnd, Live, WithProfile, WithCounts, WithContested}
+use Rattle.bspemu.specs.declared.options.OutputMode.TheVariants.{AtEnd, Live, WithProfile, WithCounts, WithContested, WithExposed}
 use Rattle.bspemu.specs.declared.options.DebugOptions.{DebugOptions}
 use Rattle.bspemu.specs.declared.options.ListOptions.{ListOptions}
 use Rattle.bspemu.specs.declared.options.AsmOptions.{AsmOptions}
@@ -108,33 +108,39 @@ pub record GivesMachineOptions (rows : List Row) (o : MachineOptions) : Type 0 w
   pub l : GivesNumber 32 (one_of (codes "l") rows) o.job.l
   pub ledger : GivesLedger rows o.job.ledger
 
--- a flag, and the paths of a profile, of counts and of what is contested, ask for this way to tell of a run, and for no other
-abbrev pub Tells : (live : Bool) → (profile counts contested : Option Text) → OutputMode → Type 0
-Tells live profile counts contested AtEnd = (live ≡ false) × (profile ≡ None) × (counts ≡ None) × (contested ≡ None)
-Tells live profile counts contested Live = (live ≡ true) × (profile ≡ None) × (counts ≡ None) × (contested ≡ None)
-Tells live profile counts contested (WithProfile path) =
-    (live ≡ false) × (profile ≡ Some path.now) × (counts ≡ None) × (contested ≡ None)
-Tells live profile counts contested (WithCounts path) =
-    (live ≡ false) × (profile ≡ None) × (counts ≡ Some path.now) × (contested ≡ None)
-Tells live profile counts contested (WithContested path) =
-    (live ≡ false) × (profile ≡ None) × (counts ≡ None) × (contested ≡ Some path.now)
+-- a flag, and the paths of a profile, of counts, of what is contested and of what is exposed, ask for this way to tell of a run, and for
+-- no other
+abbrev pub Tells : (live : Bool) → (profile counts contested exposed : Option Text) → OutputMode → Type 0
+Tells live profile counts contested exposed AtEnd =
+    (live ≡ false) × (profile ≡ None) × (counts ≡ None) × (contested ≡ None) × (exposed ≡ None)
+Tells live profile counts contested exposed Live =
+    (live ≡ true) × (profile ≡ None) × (counts ≡ None) × (contested ≡ None) × (exposed ≡ None)
+Tells live profile counts contested exposed (WithProfile path) =
+    (live ≡ false) × (profile ≡ Some path.now) × (counts ≡ None) × (contested ≡ None) × (exposed ≡ None)
+Tells live profile counts contested exposed (WithCounts path) =
+    (live ≡ false) × (profile ≡ None) × (counts ≡ Some path.now) × (contested ≡ None) × (exposed ≡ None)
+Tells live profile counts contested exposed (WithContested path) =
+    (live ≡ false) × (profile ≡ None) × (counts ≡ None) × (contested ≡ Some path.now) × (exposed ≡ None)
+Tells live profile counts contested exposed (WithExposed path) =
+    (live ≡ false) × (profile ≡ None) × (counts ≡ None) × (contested ≡ None) × (exposed ≡ Some path.now)
 
 -- so do the matches of `run`
 pub record GivesOutputMode (rows : List Row) (t : OutputMode) : Type 0 where
   pub live : Bool
   pub flag : GivesFlag (one_of (codes "live") rows) live
-  pub tells : Tells live (first_of (codes "profile") rows) (first_of (codes "counts") rows) (first_of (codes "contested") rows) t
+  pub tells : Tells live (first_of (codes "profile") rows) (first_of (codes "counts") rows) (first_of (codes "contested") rows)
+      (first_of (codes "exposed") rows) t
 
--- more than one of four
-abbrev pub are_several : Bool → Bool → Bool → Bool → Bool
-are_several a b c d = (a && (b || c || d)) || (b && (c || d)) || (c && d)
+-- more than one of five
+abbrev pub are_several : Bool → Bool → Bool → Bool → Bool → Bool
+are_several a b c d e = (a && (b || c || d || e)) || (b && (c || d || e)) || (c && (d || e)) || (d && e)
 
 -- they ask for more than one way
 pub record AsksForSeveral (rows : List Row) : Type 0 where
   pub live : Bool
   pub flag : GivesFlag (one_of (codes "live") rows) live
   pub several : are_several live (is_some (first_of (codes "profile") rows)) (is_some (first_of (codes "counts") rows))
-      (is_some (first_of (codes "contested") rows)) ≡ true
+      (is_some (first_of (codes "contested") rows)) (is_some (first_of (codes "exposed") rows)) ≡ true
 
 -- the matches of `run` give these options
 pub record GivesRunOptions (rows : List Row) (o : RunOptions) : Type 0 where

@@ -18,6 +18,7 @@ use Rattle.machine_core.specs.declared.outcome.Outcome.TheVariants.{Ended}
 use Rattle.bsp_session.specs.Contested.{Contests, IsErrorOfContested}
 use Rattle.bsp_session.specs.Counts.{Counts, IsErrorOfCounted}
 use Rattle.bsp_session.specs.Conversion.{AnswersAssembly, AnswersListing, Conversion, IsErrorOfAssembly, IsErrorOfListing}
+use Rattle.bsp_session.specs.Exposed.{Exposes, IsErrorOfExposed}
 use Rattle.bsp_session.specs.Live.{IsErrorOfLive}
 use Rattle.bsp_session.specs.Outcome.{status_of}
 use Rattle.bsp_session.specs.Profiles.{IsErrorOfProfiled, Profiles}
@@ -25,7 +26,7 @@ use Rattle.bsp_session.specs.Session.{IsErrorOf, Reports, Session as BatchSessio
 use Rattle.bsp_session.specs.Streams.{Stream}
 use Rattle.bspemu.specs.declared.options.MachineOptions.{MachineOptions}
 use Rattle.bspemu.specs.declared.options.OutputMode.{OutputMode}
-use Rattle.bspemu.specs.declared.options.OutputMode.TheVariants.{AtEnd, Live, WithProfile, WithCounts, WithContested}
+use Rattle.bspemu.specs.declared.options.OutputMode.TheVariants.{AtEnd, Live, WithProfile, WithCounts, WithContested, WithExposed}
 use Rattle.bspemu.specs.declared.options.DebugOptions.{DebugOptions}
 use Rattle.bspemu.specs.declared.options.ListOptions.{ListOptions}
 use Rattle.bspemu.specs.declared.options.AsmOptions.{AsmOptions}
@@ -50,6 +51,7 @@ abbrev pub TellsTo : OutputMode → Bor Text → Type 0
 TellsTo (WithProfile file) path = file ≡ path
 TellsTo (WithCounts file) path = file ≡ path
 TellsTo (WithContested file) path = file ≡ path
+TellsTo (WithExposed file) path = file ≡ path
 TellsTo _ path = ⊥
 
 -- own limit: the nodes of a run with a profile, whose table has a row and a column for each
@@ -77,6 +79,7 @@ IsOutcomeOf Live s outcome = Reports s outcome
 IsOutcomeOf (WithProfile file) s outcome = (profile : Stream) × Profiles s profile outcome
 IsOutcomeOf (WithCounts file) s outcome = (counts : Stream) × Counts s counts outcome
 IsOutcomeOf (WithContested file) s outcome = (contested : Stream) × Contests s contested outcome
+IsOutcomeOf (WithExposed file) s outcome = (exposed : Stream) × Exposes s exposed outcome
 
 -- and an error
 abbrev pub IsErrorTold : OutputMode → BatchSession → SessionError → Type 0
@@ -85,6 +88,7 @@ IsErrorTold Live s error = IsErrorOfLive s error
 IsErrorTold (WithProfile file) s error = (profile : Stream) × IsErrorOfProfiled s profile error
 IsErrorTold (WithCounts file) s error = (counts : Stream) × IsErrorOfCounted s counts error
 IsErrorTold (WithContested file) s error = (contested : Stream) × IsErrorOfContested s contested error
+IsErrorTold (WithExposed file) s error = (exposed : Stream) × IsErrorOfExposed s exposed error
 
 -- an answer that a run with these options can have which is told so, whatever its session reads and writes
 abbrev pub IsAnswerOfRun : MachineOptions → OutputMode → Result Outcome RunError → Type 0

@@ -51,6 +51,9 @@ const COUNTS: &str =
 const CONTESTED: &str =
     "Write the bytes to which puts or gets of one superstep bring different values to FILE, as CSV; BSPlib leaves open which of them stay";
 
+const EXPOSED: &str =
+    "Write the bytes that one call of a superstep reads and another writes, if BSPlib leaves open which comes first, to FILE, as CSV; the run is made in one thread, whatever --workers says";
+
 const INTERACTIVE: &str = "Answer each line before the next one is read, as at a terminal";
 
 const FRAMED: &str =
@@ -204,6 +207,7 @@ fn run_command<'a>(alloc: Global, formats: &'a [&'a str]) -> Result<Command<'a>,
         file_option(alloc, "profile", PROFILE),
         file_option(alloc, "counts", COUNTS),
         file_option(alloc, "contested", CONTESTED),
+        file_option(alloc, "exposed", EXPOSED),
     ]?;
     machine_command(alloc, "run", formats)?
         .about(

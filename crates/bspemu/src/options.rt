@@ -25,14 +25,25 @@ const LIVE_AND_COUNTS: &str = "the argument '--live' cannot be used with '--coun
 
 const LIVE_AND_CONTESTED: &str = "the argument '--live' cannot be used with '--contested <FILE>'";
 
+const LIVE_AND_EXPOSED: &str = "the argument '--live' cannot be used with '--exposed <FILE>'";
+
 const PROFILE_AND_COUNTS: &str =
     "the argument '--profile <FILE>' cannot be used with '--counts <FILE>'";
 
 const PROFILE_AND_CONTESTED: &str =
     "the argument '--profile <FILE>' cannot be used with '--contested <FILE>'";
 
+const PROFILE_AND_EXPOSED: &str =
+    "the argument '--profile <FILE>' cannot be used with '--exposed <FILE>'";
+
 const COUNTS_AND_CONTESTED: &str =
     "the argument '--counts <FILE>' cannot be used with '--contested <FILE>'";
+
+const COUNTS_AND_EXPOSED: &str =
+    "the argument '--counts <FILE>' cannot be used with '--exposed <FILE>'";
+
+const CONTESTED_AND_EXPOSED: &str =
+    "the argument '--contested <FILE>' cannot be used with '--exposed <FILE>'";
 
 /// What `bspemu run` and `bspemu debug` have in common.
 #[derive(Drop)]
@@ -64,6 +75,8 @@ pub enum OutputMode<'a> {
     WithCounts(&'a str),
     /// As at the end, and what is contested in the run to this file.
     WithContested(&'a str),
+    /// As at the end, and what the calls of the run expose to this file.
+    WithExposed(&'a str),
 }
 
 /// What `bspemu debug` was asked to do.
@@ -194,6 +207,7 @@ fn output_mode_of_run<'a>(run: &ArgMatches<'a>) -> Option<OutputMode<'a>>
         run.get_str("profile"),
         run.get_str("counts"),
         run.get_str("contested"),
+        run.get_str("exposed"),
     )
 }
 
@@ -202,16 +216,20 @@ fn output_mode_of<'a>(
     profile: Option<&'a str>,
     counts: Option<&'a str>,
     contested: Option<&'a str>,
+    exposed: Option<&'a str>,
 ) -> Option<OutputMode<'a>>
-    ensures some { IfSome result (Tells is_live (text_of profile.entry) (text_of counts.entry) (text_of contested.entry)) }
-    ensures none { IfNone result (IsNeverMet (Tells is_live (text_of profile.entry) (text_of counts.entry) (text_of contested.entry))) }
+    ensures some { IfSome result (Tells is_live (text_of profile.entry) (text_of counts.entry) (text_of contested.entry)
+        (text_of exposed.entry)) }
+    ensures none { IfNone result (IsNeverMet (Tells is_live (text_of profile.entry) (text_of counts.entry) (text_of contested.entry)
+        (text_of exposed.entry))) }
 {
-    match (is_live, profile, counts, contested) {
-        (false, None, None, None) => Some(OutputMode::AtEnd),
-        (true, None, None, None) => Some(OutputMode::Live),
-        (false, Some(path), None, None) => Some(OutputMode::WithProfile(path)),
-        (false, None, Some(path), None) => Some(OutputMode::WithCounts(path)),
-        (false, None, None, Some(path)) => Some(OutputMode::WithContested(path)),
+    match (is_live, profile, counts, contested, exposed) {
+        (false, None, None, None, None) => Some(OutputMode::AtEnd),
+        (true, None, None, None, None) => Some(OutputMode::Live),
+        (false, Some(path), None, None, None) => Some(OutputMode::WithProfile(path)),
+        (false, None, Some(path), None, None) => Some(OutputMode::WithCounts(path)),
+        (false, None, None, Some(path), None) => Some(OutputMode::WithContested(path)),
+        (false, None, None, None, Some(path)) => Some(OutputMode::WithExposed(path)),
         _ => None,
     }
 }
@@ -238,6 +256,7 @@ fn conflict_of_run(run: &ArgMatches<'_>) -> Option<&'static str>
         run.get_str("profile"),
         run.get_str("counts"),
         run.get_str("contested"),
+        run.get_str("exposed"),
     )
 }
 
@@ -246,19 +265,24 @@ fn conflict_of(
     profile: Option<&str>,
     counts: Option<&str>,
     contested: Option<&str>,
+    exposed: Option<&str>,
 ) -> Option<&'static str>
     ensures some { IfSome result (λ message. are_several is_live (is_some (text_of profile.entry))
-        (is_some (text_of counts.entry)) (is_some (text_of contested.entry)) ≡ true) }
+        (is_some (text_of counts.entry)) (is_some (text_of contested.entry)) (is_some (text_of exposed.entry)) ≡ true) }
     ensures none { IfNone result (are_several is_live (is_some (text_of profile.entry))
-        (is_some (text_of counts.entry)) (is_some (text_of contested.entry)) ≡ false) }
+        (is_some (text_of counts.entry)) (is_some (text_of contested.entry)) (is_some (text_of exposed.entry)) ≡ false) }
 {
-    match (is_live, profile, counts, contested) {
-        (true, Some(_), _, _) => Some(LIVE_AND_PROFILE),
-        (true, None, Some(_), _) => Some(LIVE_AND_COUNTS),
-        (true, None, None, Some(_)) => Some(LIVE_AND_CONTESTED),
-        (false, Some(_), Some(_), _) => Some(PROFILE_AND_COUNTS),
-        (false, Some(_), None, Some(_)) => Some(PROFILE_AND_CONTESTED),
-        (false, None, Some(_), Some(_)) => Some(COUNTS_AND_CONTESTED),
+    match (is_live, profile, counts, contested, exposed) {
+        (true, Some(_), _, _, _) => Some(LIVE_AND_PROFILE),
+        (true, None, Some(_), _, _) => Some(LIVE_AND_COUNTS),
+        (true, None, None, Some(_), _) => Some(LIVE_AND_CONTESTED),
+        (true, None, None, None, Some(_)) => Some(LIVE_AND_EXPOSED),
+        (false, Some(_), Some(_), _, _) => Some(PROFILE_AND_COUNTS),
+        (false, Some(_), None, Some(_), _) => Some(PROFILE_AND_CONTESTED),
+        (false, Some(_), None, None, Some(_)) => Some(PROFILE_AND_EXPOSED),
+        (false, None, Some(_), Some(_), _) => Some(COUNTS_AND_CONTESTED),
+        (false, None, Some(_), None, Some(_)) => Some(COUNTS_AND_EXPOSED),
+        (false, None, None, Some(_), Some(_)) => Some(CONTESTED_AND_EXPOSED),
         _ => None,
     }
 }

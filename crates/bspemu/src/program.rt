@@ -15,8 +15,8 @@ use crate::options::{
 };
 use bsp_console::{debug_dialogue, debug_framed, debug_session};
 use bsp_session::{
-    Outcome, SessionError, asm_session, contested_session, counts_session, list_session,
-    live_session, profile_session, session, status,
+    Outcome, SessionError, asm_session, contested_session, counts_session, exposed_session,
+    list_session, live_session, profile_session, session, status,
 };
 use clap::Error;
 use clap::error::ErrorKind;
@@ -182,6 +182,7 @@ fn run_on<'a, R: AllocGlobal + Files + Input + Print + Threads + Wait + Sync>(
         OutputMode::WithProfile(path) => run_profiled(rt, machine, path, streams),
         OutputMode::WithCounts(path) => run_counted(rt, machine, path, streams),
         OutputMode::WithContested(path) => run_contested(rt, machine, path, streams),
+        OutputMode::WithExposed(path) => run_exposed(rt, machine, path, streams),
     }
 }
 
@@ -309,6 +310,33 @@ fn run_contested<'a, R: AllocGlobal + Files + Input + Print + Threads + Wait + S
         &options.job,
         &mut out,
         &mut contested,
+    ))
+}
+
+/// The same with what the calls of the run expose, which is made in this thread alone.
+#[inline(never)]
+fn run_exposed<'a, R: AllocGlobal + Files + Input + Print>(
+    rt: &R,
+    options: &MachineOptions<'a>,
+    path: &'a str,
+    streams: &mut Streams<R::File, R::Reader>,
+) -> Result<Outcome, RunError<'a>>
+    ensures { IsAnswerOfRun options.now (OutputMode.WithExposed path.entry) result }
+{
+    let mut exposed = Counted::new(create_beside(
+        rt,
+        path,
+        streams.image.inner(),
+        streams.input.inner(),
+    )?);
+    let mut out = Counted::new(io::writer(rt));
+    answer_of(exposed_session(
+        rt.alloc(),
+        &mut streams.image,
+        &mut streams.input,
+        &options.job,
+        &mut out,
+        &mut exposed,
     ))
 }
 

@@ -26,6 +26,7 @@
         --profile <FILE>    File to write what each rank did in each superstep, as CSV; it is created, or emptied, before the run
         --counts <FILE>     Write how many steps each address made to FILE, as CSV; the run is made in one thread, whatever --workers says
         --contested <FILE>  Write the bytes to which puts or gets of one superstep bring different values to FILE, as CSV; BSPlib leaves open which of them stay
+        --exposed <FILE>    Write the bytes that one call of a superstep reads and another writes, if BSPlib leaves open which comes first, to FILE, as CSV; the run is made in one thread, whatever --workers says
     -h, --help              Print help
   
   Exit status:

@@ -1,7 +1,7 @@
-  $ bspemu run examples/ranks.raw --speed 9
-  error: unexpected argument '--speed' found (stderr)
+  $ bspemu run examples/ranks.raw --fast 9
+  error: unexpected argument '--fast' found (stderr)
    (stderr)
-    tip: to pass '--speed' as a value, use '-- --speed' (stderr)
+    tip: to pass '--fast' as a value, use '-- --fast' (stderr)
    (stderr)
   Usage: bspemu run <IMAGE> (stderr)
    (stderr)

@@ -83,7 +83,7 @@ def rows(path: str | os.PathLike[str], most: int = MOST_PLACES) -> Iterator[Cont
     """The first rows of a file of contested bytes, and then how many there are more; what is none raises ValueError."""
     with about(path), open(path, encoding="ascii", errors="replace", newline="") as file:
         if os.fstat(file.fileno()).st_size > MOST_BYTES:
-            raise Refused(f"the contested bytes have more than {MOST_BYTES} bytes of lines: take fewer nodes, or fewer supersteps")
+            raise Refused(f"the list of contested bytes exceeds {MOST_BYTES} bytes: use fewer nodes or fewer supersteps")
         if file.readline(2 * MOST_LINE) != HEADER + "\n":
             raise Unfit("it does not begin as contested bytes do")
         for _ in range(most):
@@ -134,5 +134,5 @@ def in_run(program: list[str], settings: list[str], nodes: int, last: int, folde
     file = folder / "contested.csv"
     done = emulator.run([*program, "run", *settings, "--contested", str(file)])
     if done.returncode not in (0, STOPPED) or not file.exists():
-        raise Refused("what is contested in the run is not told", *lines_of(done.stderr))
+        raise Refused("the emulator did not report what is contested", *lines_of(done.stderr))
     return read(file, nodes, last)

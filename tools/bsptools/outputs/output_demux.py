@@ -80,7 +80,8 @@ class Marks:
                 continue
             if end > len(rest):
                 break
-            yield OUTPUT, rest[start:at]
+            if at > start:
+                yield OUTPUT, rest[start:at]
             yield rest[at + MARK_BYTES - 1], rest[begin:end]
             start = end
         whole = at if at >= 0 else len(rest) - overlap(rest[start:][-MARK_BYTES:], self.mark)

@@ -22,7 +22,7 @@ def read(content: bytes) -> Report | None:
             return of_csv(content.decode())
         parted = part(content)
     except (ValueError, KeyError, TypeError, AttributeError, RecursionError, csv.Error) as error:
-        raise Refused(f"it begins as a report, and goes on as none: {why_unfit(error)}") from error
+        raise Refused(f"it begins like a report, but is not: {why_unfit(error)}") from error
     return parted[1] if parted else None
 
 

@@ -163,7 +163,7 @@ def opened(folder: Folder, names: Sequence[str]) -> Iterator[int]:
             with contextlib.suppress(FileExistsError):
                 os.mkdir(name, dir_fd=place)
             if os.path.islink(path):
-                raise Refused(f"{path}: it is a link, which is not followed")
+                raise Refused(f"{path}: it is a symbolic link, which is not followed")
             above, place = place, os.open(name, os.O_RDONLY | os.O_DIRECTORY | os.O_NOFOLLOW, dir_fd=place)
             os.close(above)
         yield place

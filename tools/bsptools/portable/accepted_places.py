@@ -46,7 +46,7 @@ def read(path: str) -> set[Tuple[str, ...]]:
         if not words or line.startswith("#"):
             continue
         if len(words) < 3 or any(not it.rpartition(":")[0] or not it.rpartition(":")[2].isdecimal() for it in words[:2]):
-            raise Refused(f"{path}, line {number}: a line has two places as FILE:LINE, and a reason")
+            raise Refused(f"{path}, line {number}: a line needs two places, each as FILE:LINE, and a reason")
         pairs.add(pair_of(words[:2]))
     return pairs
 

@@ -8,13 +8,12 @@ from __future__ import annotations
 import functools
 import itertools
 import struct
-from collections.abc import Iterator
+from collections.abc import Iterable, Iterator
 from dataclasses import dataclass, field
 from typing import Counter, Dict, List, NamedTuple, Set, Tuple
 
 from ..framed import environment_calls
 from ..framed.environment_calls import GETS, POP, PUSH, PUTS, REQUESTS, SEND, TAGSIZE
-from ..outputs.output_demux import Marks
 from ..outputs.output_records import record_of
 from . import exposed_bytes
 from .exposed_bytes import Bytes, Transfer
@@ -135,12 +134,12 @@ class Superstep:
                         yield Transfer(it.rank, number, KINDS[it.number], read, self.written(it)), it
 
 
-def supersteps(content: bytes, mark: bytes, last: int) -> List[Superstep]:
-    """The supersteps of a run up to the last that has a call, by what the run wrote, and by the number of its last one. A program can print
-    what looks like a record: one that has no whole calls, or that is of a later superstep, is left out."""
+def supersteps(pieces: Iterable[bytes], last: int) -> List[Superstep]:
+    """The supersteps of a run up to the last that has a call, by the records of calls that it wrote, and by the number of its last one. A
+    program can print what looks like a record: one that has no whole calls, or that is of a later superstep, is left out."""
     found: List[Superstep] = []
-    for kind, piece in Marks(mark).take(content):
-        record = record_of(kind, piece) if kind == CALLS else None
+    for piece in pieces:
+        record = record_of(CALLS, piece)
         if record is None or len(record.content) % CALL.size != SUPERSTEP_BYTES:
             continue
         superstep = int.from_bytes(record.content[:SUPERSTEP_BYTES], "little")

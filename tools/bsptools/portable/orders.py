@@ -65,11 +65,11 @@ def choices_of(text: str) -> tuple[Choices, list[int]]:
         elif what == "puts" and (how == "reversed" or (is_number(how) and int(how) > 0)):
             turned.append(ALL if how == "reversed" else int(how))
         else:
-            raise Refused(f"--order takes {FORMS}; {part!r} is none of these")
+            raise Refused(f"--order takes {FORMS}; {part!r} is not one of these")
     if at:
         numbers = point.split("/")
         if len(numbers) != 3 or not all(map(is_number, numbers)):
-            raise Refused(f"--order has behind @ a superstep, a rank and a number, as @1/0/2, and not {point!r}")
+            raise Refused(f"--order takes a superstep, a rank and a number after @, such as @1/0/2, and not {point!r}")
         choices = choices._replace(until=Point(*(int(it) & WORD for it in numbers)))
     return choices, turned
 
@@ -86,7 +86,7 @@ def with_order(job: Job, folder: pathlib.Path) -> Job:
     subject = Subject(job.options, job.program, job.code, job.settings, folder, b"")
     trials = Trials(subject, job.content, read_elf(job.content), job.options.limit)
     if turned and choices.is_alone:
-        raise Refused("--order takes begin:alone or the order of puts, and not both")
+        raise Refused("--order takes begin:alone or an order of puts, but not both")
     if turned:
         choices = choices._replace(cuts=tuple(cuts_of(trials, choices, turned)[:MOST_CUTS]))
     if choices.is_alone:
@@ -113,5 +113,5 @@ def cuts_of(trials: Trials, choices: Choices, turned: Sequence[int]) -> list[Cut
     trials.run_all([choices], is_contested=True)
     made = pairs(trials.contested[choices].rows, trials.log(choices))
     if max(turned) > len(made):
-        raise Refused(f"--order names pair {max(turned)} of lines that contest bytes, and there are {len(made)}")
+        raise Refused(f"--order names pair {max(turned)} of lines that contest bytes, but there are {len(made)}")
     return [cut for at, pair in enumerate(made, 1) if at in turned or ALL in turned for cut in pair.cuts]

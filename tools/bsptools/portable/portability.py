@@ -9,26 +9,25 @@ import math
 import pathlib
 import re
 import subprocess
-from collections.abc import Callable, Iterator
+from collections.abc import Callable
 from dataclasses import dataclass, field
 
 from ..files import content_of
 from ..framed.environment_calls import POP, PUSH, SEND, Tracer
 from ..framed.replays import Replays
 from ..limits import MOST_NODES, MOST_PROGRAM
-from ..outputs import contested_bytes, output_records
+from ..outputs import contested_bytes, exposed_ranges, output_records
 from ..prepare.compilation import compiled
 from ..prepare.job import Job
 from ..prepare.library_choices import EARLY, LATE, MOST_CUTS, NUMBERED, REVERSED, SHUFFLED, WATCHED, Choices, Cut, Point
 from ..program.code import read_elf
 from ..refusals import Refused, counted, show, tell
-from . import exposed_accesses, exposed_bytes, final_variables, orders, sums_of_messages, unbuffered_races
+from . import exposed_accesses, exposed_pairs, final_variables, orders, sums_of_messages, unbuffered_races
 from .accepted_places import Accepted
 from .call_log import INPUT, NO_MESSAGE, Logged, Superstep
 from .contested_pairs import Pair, pairs
-from .exposed_bytes import Exposed
-from .portability_findings import CALLS, QUEUE, Finding, Findings, Other, again, described, parted, told_contested, told_variable
-from .trial_runs import Ending, NoRoom, Subject, Trials, ending_of, least
+from .portability_findings import CALLS, QUEUE, Finding, Findings, Other, again, described, parted, told_contested, told_exposed, told_variable
+from .trial_runs import Ending, NoRoom, Subject, Trials, ending_of, least, run_each
 
 TIMES = (Choices(unbuffered=EARLY), Choices(unbuffered=LATE))
 PATTERNS = (0x40, 0xC1)
@@ -94,6 +93,8 @@ class Portable:
         self.known: dict[Choices, list[bytes]] = {}
         self.told_pairs: set[tuple[int, ...]] = set()
         self.on_other_nodes: list[tuple[int, subprocess.CompletedProcess[bytes]]] = []
+        # What the machine's calls expose in the run as it is; nothing where the program has no call that can.
+        self.exposures = exposed_ranges.Found([], True)
         # Whether something of what seldom counts does, so that each part of it is looked for by itself.
         self.is_rare = True
         self.verdict = Verdict()
@@ -122,8 +123,13 @@ class Portable:
         if len(self.cuts) < MOST_CUTS and sum(it.end - it.start for it in self.cuts) <= MOST_SUMMED:
             self.trials.summed = self.cuts
         beside = [self.subject.command(it, self.trials.limit) for it in nodes]
+        file = self.subject.folder / "exposed.csv"
+        can_expose = self.has(*CALLS)
+        beside += [[*self.subject.command(self.trials.nodes, self.subject.limit), "--exposed", str(file)]] if can_expose else []
         done = self.trials.begin_all([Choices(), *self.fresh_choices()], logged=[Choices()], beside=beside)
         self.on_other_nodes = list(zip(nodes, done))
+        if can_expose:
+            self.exposures = exposed_ranges.of_run(done[-1], file, self.trials.nodes, self.ended.last)
 
     def fresh_choices(self) -> list[Choices]:
         """The runs with other bytes in fresh memory. Where a run is told by what it writes alone, one of them has also all else that seldom
@@ -239,6 +245,7 @@ class Portable:
             self.verdict.found.append(Finding([*lines, again(Choices(order=NUMBERED))]))
             if contested.first is not None:
                 self.verdict.found.append(Finding(told_contested(self.trace, contested.first, contested.places - 1)))
+            self.verdict.found += [told_exposed(self.trace, it) for it in self.exposures.rows[:1]]
             self.ended = base
             self.fresh()
             self.other_nodes()
@@ -287,18 +294,19 @@ class Portable:
 
     def exposed(self) -> None:
         """Bytes that a call reads at a time that is open while another one writes them."""
-        seen: dict[frozenset[int], tuple[int, Exposed, Logged, Logged]] = {}
-        for superstep, step in enumerate(self.log):
-            if step.has_unbuffered:
-                for pair, it, reader, writer in exposed_in(step):
-                    seen.setdefault(pair, (superstep, it, reader, writer))
+        found = exposed_pairs.pairs(self.log)
+        seen, untold = list(found.places.values()), found.untold(self.exposures.rows)
         findings = self.findings()
         other = self.at_other_times() if seen else None
-        for superstep, found, reader, writer in list(seen.values())[:MOST_PAIRS]:
-            self.find(findings.exposed(superstep, found, (reader, writer), other))
+        for it in seen[:MOST_PAIRS]:
+            self.find(findings.exposed(it, other))
+        for row in untold:
+            self.find(told_exposed(self.trace, row))
         if len(seen) > MOST_PAIRS:
             self.leave_out(f"not told: {counted(len(seen) - MOST_PAIRS, 'more pair')} of lines that expose bytes")
-        if any(step.has_unbuffered for step in self.log) and not seen:
+        if not self.exposures.is_whole:
+            self.leave_out(f"not told: exposed bytes behind the first {len(self.exposures.rows)} lines of the emulator")
+        if any(step.has_unbuffered for step in self.log) and not seen and not untold:
             supersteps = counted(self.ended.last + 1, "superstep")
             self.verdict.exact.append(f"unbuffered calls: nothing exposed to other calls in {supersteps} (exact)")
 
@@ -512,10 +520,10 @@ class Portable:
                 self.find(self.findings().stack(self.trials, choices, other.difference))
             if other is not None:
                 return False
-        for value in VALUES if self.subject.options.sources else ():
-            trials, said = self.builds.get(self.trials.ticks, *options_for(value))
+        builds = [self.builds.get(self.trials.ticks, *options_for(it)) for it in VALUES] if self.subject.options.sources else []
+        for trials, _ in builds:
             trials.room = trials.room and self.trials.room
-            ending = trials.run(Choices())
+        for value, (trials, said), ending in zip(VALUES, builds, run_each([it for it, _ in builds])):
             if ending != self.ended:
                 self.find(self.findings().stack(trials, Choices(), parted(self.ended, ending), said, value))
                 return False
@@ -540,18 +548,6 @@ class Portable:
 def options_for(value: str) -> list[str]:
     """The options of a build in which GCC gives variables of functions these values."""
     return ["-Wuninitialized", "-Wmaybe-uninitialized", f"-ftrivial-auto-var-init={value}"]
-
-
-def exposed_in(step: Superstep) -> Iterator[tuple[frozenset[int], Exposed, Logged, Logged]]:
-    """The bytes that each pair of places in the code exposes in a superstep, once, by the two calls that are nearest."""
-    calls = dict(step.transfers())
-    pairs_of: dict[frozenset[int], Exposed] = {}
-    for it in exposed_bytes.exposed(list(calls), lambda it: calls[it].place):
-        pairs_of.setdefault(frozenset((calls[it.reader].place, calls[it.writer].place)), it)
-    for pair, it in pairs_of.items():
-        readers, writers = ([one for one, call in calls.items() if call.place == calls[of].place] for of in (it.reader, it.writer))
-        it = exposed_bytes.nearest(it, readers, writers)
-        yield pair, it, calls[it.reader], calls[it.writer]
 
 
 class Builds:
@@ -620,7 +616,7 @@ def is_portable(job: Job, folder: pathlib.Path, accepted: Accepted) -> bool:
     """Tells the verdict, and writes the pairs that were found where that is asked for; answers whether nothing was found."""
     found = verdict(job, folder, accepted)
     if found is None:
-        tell(["bsprun: not tried: other choices, since the program by itself does not end well"])
+        tell(["bsprun: not tried: other choices, because the program itself fails"])
         return True
     tell(found.lines())
     accepted.write()

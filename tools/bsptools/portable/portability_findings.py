@@ -13,18 +13,20 @@ from ..framed.environment_calls import HPGET, HPPUT, NAMES, REQUESTS, SEND, Call
 from ..framed.replays import Replays
 from ..framed.session import ALL, Node
 from ..limits import MOST_POINTS
+from ..outputs import exposed_ranges
 from ..outputs.contested_bytes import Contested
 from ..outputs.written_files import file_name
 from ..prepare.compilation import compiled
 from ..prepare.library_choices import EARLY, EVERYWHERE, NUMBERED, REVERSED, Choices, Point, swaps
-from ..program.code import source_lines
+from ..program.code import Code, source_lines
 from ..refusals import Refused, counted
 from . import final_variables, orders
 from .call_log import Logged
 from .contested_pairs import Pair
 from .divergence import first_divergence, shown
 from .exposed_accesses import Access
-from .exposed_bytes import DIRECT_GET, Bytes, Exposed
+from .exposed_bytes import DIRECT_GET, Bytes
+from .exposed_pairs import Place
 from .trial_runs import Ending, Stop, Trials, least, looked, memory_of, stops
 from .unbuffered_races import Race
 
@@ -103,9 +105,7 @@ class Findings:
 
     def place_behind(self, it: Logged) -> str:
         """Where a call stands, by the place to which it goes back."""
-        call = self.code.call_before(it.place) or it.place - 2
-        known = [Frame(*found, "") for found in source_lines(self.code, call)]
-        return ", called from ".join(map(str, known)) or self.code.name_at(call) or f"address {call:#x}"
+        return place_at(self.code, self.code.call_before(it.place) or it.place - 2)
 
     def pair(self, choices: Choices, number: int, pair: Pair, other: Other | None) -> Finding:
         """Two places in the code that contest bytes, and what comes of the other order."""
@@ -125,12 +125,12 @@ class Findings:
         lines += [f"then   {other.difference}"] if other is not None else []
         return Finding([*lines, again(choices, number), f"why    {WHY_PUTS}"], tuple(places))
 
-    def exposed(self, superstep: int, it: Exposed, both: Sequence[Logged], other: Other | None) -> Finding:
+    def exposed(self, exposure: Place, other: Other | None) -> Finding:
         """A call that reads what another one, or itself, writes, where who comes first is open; and what comes of another time."""
+        superstep, it, *both = exposure
         is_own = it.reader == it.writer
         made = [self.call_at(superstep, asked) for asked in both[: 1 if is_own else 2]]
-        head = f"{it.reader.kind} from a rank to itself writes bytes that it reads" if is_own else ""
-        lines = [head or f"{it.reader.kind} reads what {it.writer.kind} of the same superstep writes"]
+        lines = [exposing(it.reader.kind, it.writer.kind, is_own)]
         lines.append(self.bytes_at(superstep, it.where, *(call.node for call in made)))
         lines += [f"{what} by rank {asked.rank} at {call.where}: {call.text}" for what, asked, call in zip(("read  ", "write "), both, made)]
         return Finding([*lines, *of_other(other), f"why    {WHY_UNBUFFERED}"], tuple(line_in(call.where) for call in made))
@@ -230,7 +230,7 @@ class Findings:
             with trace.replays.session() as session:
                 session.ask_all([*script, f"step {rank} {steps}"])
                 return looked(session, trace.code, rank), memory_of(session, rank, address, len(content))
-            raise Refused("the run could not be made again")
+            raise Refused("the run could not be repeated")
 
         end, other = after(ALL)
         steps = least(0, end.ticks - after(0)[0].ticks, lambda it: after(it)[1] != content)
@@ -322,6 +322,33 @@ def told_contested(trace: Tracer, it: Contested, others: int) -> list[str]:
             where = trace.place_of(rank, REQUESTS, it.superstep, made[number])
             lines.append(f"{byte:02x}     by rank {rank} at {where}: {spelled(trace.code, made[number].node)}")
     return [*lines, *([f"and    {counted(others, 'more place')}"] if others else []), f"why    {WHY_PUTS}"]
+
+
+def told_exposed(trace: Tracer, it: exposed_ranges.Exposed) -> Finding:
+    """What the emulator tells of two calls, or of one with itself, that expose bytes."""
+    is_own, places = it.reader == it.writer, []
+    lines = [exposing(f"bsp_{it.reader.kind}", f"bsp_{it.writer.kind}", is_own)]
+    end = f" to {it.address + it.size - 1:#x}" if it.size > 1 else ""
+    lines.append(f"superstep {it.superstep}, rank {it.rank}: byte {written(trace.code, it.address)}{end}")
+    for what, call in [("read  ", it.reader), ("write ", it.writer)][: 1 if is_own else 2]:
+        made = trace.calls_in(call.rank, REQUESTS, it.superstep, (it.reader.place, it.writer.place))[call.number : call.number + 1]
+        where, text = place_at(trace.code, call.place), f"bsp_{call.kind}"
+        if made and made[0].node.pc == call.place:
+            where, text = trace.place_of(call.rank, REQUESTS, it.superstep, made[0]), spelled(trace.code, made[0].node)
+        lines.append(f"{what} by rank {call.rank} at {where}: {text}")
+        places.append(line_in(where))
+    return Finding([*lines, f"why    {WHY_UNBUFFERED}"], tuple(places))
+
+
+def place_at(code: Code, address: int) -> str:
+    """Where in the source an address of the code stands, or what else is known of it."""
+    known = [Frame(*found, "") for found in source_lines(code, address)]
+    return ", called from ".join(map(str, known)) or code.name_at(address) or f"address {address:#x}"
+
+
+def exposing(reader: str, writer: str, is_own: bool) -> str:
+    """What two calls do, or what one does by itself."""
+    return f"{reader} from a rank to itself writes bytes that it reads" if is_own else f"{reader} reads what {writer} of the same superstep writes"
 
 
 def of_other(other: Other | None) -> list[str]:

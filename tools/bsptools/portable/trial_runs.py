@@ -3,6 +3,7 @@
 from __future__ import annotations
 
 import argparse
+import itertools
 import pathlib
 import subprocess
 from collections.abc import Callable, Iterator, Sequence
@@ -32,6 +33,10 @@ LOG_MARK = b"\0bsprun\5\0\1\2\3\4\5\6"
 MORE_TICKS, TIMES = 100_000_000, 20
 # Bytes that are looked at where a call names some.
 MOST_SHOWN = 1 << 16
+
+
+# Numbers of images, which have a folder in common.
+IMAGES = itertools.count()
 
 
 class NoRoom(Exception):
@@ -67,6 +72,11 @@ class Subject(NamedTuple):
         """What stands before the records of a run that is logged."""
         return self.mark or LOG_MARK
 
+    @property
+    def limit(self) -> int:
+        """The most instructions of a node in the run as it is."""
+        return int(self.settings[self.settings.index("--limit") + 1])
+
     def run(self, file: pathlib.Path) -> Ending:
         """The program as it is, which writes what is contested into a file."""
         workers = ["--workers", str(self.options.workers)]
@@ -81,16 +91,20 @@ class Subject(NamedTuple):
         return [*self.program, "run", *settings, "--report"]
 
 
-def ending_of(done: subprocess.CompletedProcess[bytes], mark: bytes) -> Ending:
-    """What a run with a report came to: its output without the records, the files and the sums that these tell of."""
+def ending_of(done: subprocess.CompletedProcess[bytes], mark: bytes, calls: list[bytes] | None = None) -> Ending:
+    """What a run with a report came to: its output without the records, the files and the sums that these tell of. Records of calls are added
+    to a list, if one is given."""
     found = report.brief(done.stdout)
     if found is None:
-        raise Refused("the program could not be run once more", *lines_of(done.stderr))
+        raise Refused("the program could not be run again", *lines_of(done.stderr))
     marks, written, output, sums = Marks(mark), Files(), bytearray(), {}
     for kind, piece in marks.take(bytes(found.output)):
         if kind == OUTPUT:
             output += piece
-        elif kind not in (output_records.NOTE, CALLS) and (record := output_records.record_of(kind, piece)) is not None:
+        elif kind == CALLS:
+            if calls is not None:
+                calls.append(piece)
+        elif kind != output_records.NOTE and (record := output_records.record_of(kind, piece)) is not None:
             if kind == SUM:
                 sums[record.rank] = record.content
             else:
@@ -131,7 +145,6 @@ class Trials:
         self.roomless: set[Choices] = set()
         # Where the variables lie of which sums are told.
         self.summed: tuple[Cut, ...] = ()
-        self.images = 0
 
     @property
     def nodes(self) -> int:
@@ -145,8 +158,7 @@ class Trials:
 
     def _settings_for(self, choices: Choices, is_told: bool) -> list[str]:
         """The settings of a run, of which the image is written. It has records, unless it is one of the debugger, which parts none."""
-        image = self.subject.folder / f"chosen{self.images}.elf"
-        self.images += 1
+        image = self.subject.folder / f"chosen{next(IMAGES)}.elf"
         if is_told and not choices.cuts:
             choices = choices._replace(is_summed=bool(self.summed), cuts=self.summed)
         content = image_with(self.content, self.with_memory(choices))
@@ -188,25 +200,31 @@ class Trials:
         if left or beside:
             show("bsprun: trying other choices")
         files = [self.subject.folder / f"contested{at}.csv" if is_contested else None for at in range(len(left))]
-        commands = [self._command(it._replace(is_logged=it in logged), file) for it, file in zip(left, files)]
+        commands = [self.command(it._replace(is_logged=it in logged), file) for it, file in zip(left, files)]
         done = emulator.run_all([*commands, *beside]) if left or beside else []
         for it, file, one in zip(left, files, done):
-            ending = ending_of(one, self.subject.log_mark)
-            if NO_ROOM in ending.output and ending.outcome != "ended":
-                self.roomless.add(it)
-                continue
-            self.known[it] = ending
-            if it in logged:
-                self.logs[it] = supersteps(one.stdout, self.subject.log_mark, ending.last)
-            if file is not None:
-                self.contested[it] = contested_bytes.read(file, self.nodes, ending.last)
+            self.take(it, one, file, it in logged)
         return done[len(left) :]
+
+    def take(self, choices: Choices, done: subprocess.CompletedProcess[bytes], file: pathlib.Path | None = None, is_logged: bool = False) -> None:
+        """Takes down what a run came to."""
+        calls: list[bytes] = []
+        ending = ending_of(done, self.subject.log_mark, calls if is_logged else None)
+        if NO_ROOM in ending.output and ending.outcome != "ended":
+            self.roomless.add(choices)
+            return
+        self.known[choices] = ending
+        if is_logged:
+            self.logs[choices] = supersteps(calls, ending.last)
+        if file is not None:
+            self.contested[choices] = contested_bytes.read(file, self.nodes, ending.last)
 
     def lacks(self, choices: Choices, is_contested: bool, is_logged: bool) -> bool:
         """Whether something is not known of a run."""
         return choices not in self.known or (is_contested and choices not in self.contested) or (is_logged and choices not in self.logs)
 
-    def _command(self, choices: Choices, file: pathlib.Path | None) -> list[str]:
+    def command(self, choices: Choices, file: pathlib.Path | None = None) -> list[str]:
+        """What makes a run, which also writes what is contested into a file where one is given."""
         workers = ["--workers", str(self.subject.options.workers)]
         more = ["--contested", str(file)] if file is not None else []
         return [*self.subject.program, "run", *self._settings_for(choices, is_told=True), *workers, "--report", *more]
@@ -236,6 +254,13 @@ class Trials:
             most *= 2
         index = least(most // 2, most, lambda it: at(Point(superstep, rank, it))) - 1
         return choices._replace(until=Point(superstep, rank, index))
+
+
+def run_each(builds: Sequence[Trials]) -> list[Ending]:
+    """What builds come to where nothing is chosen, all of which are run side by side."""
+    for it, one in zip(builds, emulator.run_all([it.command(Choices()) for it in builds])):
+        it.take(Choices(), one)
+    return [it.run(Choices()) for it in builds]
 
 
 def least(low: int, high: int, holds: Callable[[int], bool]) -> int:

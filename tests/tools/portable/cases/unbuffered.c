@@ -237,6 +237,31 @@ CASE(direct_get_of_an_hpput, EXPOSED)
     say(me == 1 ? got : 0);
 }
 
+/* hpget as the machine has it, which the library does not know of. */
+static void machine_hpget(int pid, const int *from, int at, int *into)
+{
+    register long a0 __asm__("a0") = pid, a2 __asm__("a2") = at * WORD, a4 __asm__("a4") = WORD, a7 __asm__("a7") = 10;
+    register const int *a1 __asm__("a1") = from;
+    register int *a3 __asm__("a3") = into;
+    __asm__ volatile("ecall" : "+r"(a0) : "r"(a1), "r"(a2), "r"(a3), "r"(a4), "r"(a7) : "memory");
+}
+
+CASE(hpget_without_the_library, EXPOSED)
+{
+    machine_hpget(next, b, 0, &c[0]); /* ! */
+    PUT(next, &seven, b, 0); /* ! */
+    bsp_sync();
+    say(c[0]);
+}
+
+CASE(hpget_without_the_library_beside, INNOCENT)
+{
+    machine_hpget(next, b, 0, &c[0]);
+    PUT(next, &seven, b, 1);
+    bsp_sync();
+    say(c[0]);
+}
+
 /* Against what the ranks themselves write and read. */
 
 CASE(source_used_again, TIMES)

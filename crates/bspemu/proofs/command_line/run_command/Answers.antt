@@ -15,14 +15,17 @@ returns c =
     (λ r adds.
     with_args _ r _
     (c.flag.result ∷ c.flag-2.result ∷ c.number.result ∷ c.long_number.result ∷ c.file_option.result ∷ c.file_option-2.result
-    ∷ c.file_option-3.result ∷ [])
+    ∷ c.file_option-3.result ∷ c.file_option-4.result ∷ [])
     (flag_rule (codes "report") ∷ flag_rule (codes "live") ∷ workers_rule ∷ slice_rule ∷ option_rule (codes "profile")
-    ∷ option_rule (codes "counts") ∷ option_rule (codes "contested") ∷ [])
+    ∷ option_rule (codes "counts") ∷ option_rule (codes "contested") ∷ option_rule (codes "exposed") ∷ [])
     (subst (λ args. AddsInTurn AddsArg c.after_help.result args r) (c.in_ok-arguments.ensures {u = tt}).items adds) named (
       c.flag.ensures,
       (
         c.flag-2.ensures,
-        (c.number.ensures, (c.long_number.ensures, (c.file_option.ensures, (c.file_option-2.ensures, (c.file_option-3.ensures, tt))))),
+        (
+          c.number.ensures,
+          (c.long_number.ensures, (c.file_option.ensures, (c.file_option-2.ensures, (c.file_option-3.ensures, (c.file_option-4.ensures, tt))))),
+        ),
       ),
     ))
     c.args-2.ensures

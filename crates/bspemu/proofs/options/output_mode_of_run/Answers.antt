@@ -1,4 +1,4 @@
--- How the run is told follows from the flag and the three files that were read, and is none only if they ask for several ways.
+-- How the run is told follows from the flag and the four files that were read, and is none only if they ask for several ways.
 use Rattle.std.proofs.Common.{◌∙◌, codes}
 use Rattle.clap.specs.Words.{found_of, rows_of}
 use Rattle.clap.proofs.WalkLemmas.{first_value-rows}
@@ -10,24 +10,28 @@ use Rattle.bspemu.proofs.options.output_mode_of_run.Goals as goal
 pub returns-clause-some : goal.returns-clause-some
 returns-clause-some c =
     let found = found_of c.args.run.now in
-    let reads : Reads (rows_of found) _ (text_of c.get_str.result) (text_of c.get_str-2.result) (text_of c.get_str-3.result) = record {
+    let reads : Reads (rows_of found) _ (text_of c.get_str.result) (text_of c.get_str-2.result) (text_of c.get_str-3.result)
+    (text_of c.get_str-4.result) = record {
       flag = flag_of_getter _ found (codes "live") c.in_ok-is_live.ensures.none c.in_ok-is_live.ensures.value;
       profile_is = c.get_str.ensures ∙ first_value-rows found (codes "profile");
       counts_is = c.get_str-2.ensures ∙ first_value-rows found (codes "counts");
       contested_is = c.get_str-3.ensures ∙ first_value-rows found (codes "contested");
+      exposed_is = c.get_str-4.ensures ∙ first_value-rows found (codes "exposed");
     } in
-    output_mode_of_reads (rows_of found) _ _ _ _ c.output_mode_of.result reads c.output_mode_of.ensures.some
+    output_mode_of_reads (rows_of found) _ _ _ _ _ c.output_mode_of.result reads c.output_mode_of.ensures.some
 
 pub returns-clause-none : goal.returns-clause-none
 returns-clause-none c =
     let found = found_of c.args.run.now in
-    let reads : Reads (rows_of found) _ (text_of c.get_str.result) (text_of c.get_str-2.result) (text_of c.get_str-3.result) = record {
+    let reads : Reads (rows_of found) _ (text_of c.get_str.result) (text_of c.get_str-2.result) (text_of c.get_str-3.result)
+    (text_of c.get_str-4.result) = record {
       flag = flag_of_getter _ found (codes "live") c.in_ok-is_live.ensures.none c.in_ok-is_live.ensures.value;
       profile_is = c.get_str.ensures ∙ first_value-rows found (codes "profile");
       counts_is = c.get_str-2.ensures ∙ first_value-rows found (codes "counts");
       contested_is = c.get_str-3.ensures ∙ first_value-rows found (codes "contested");
+      exposed_is = c.get_str-4.ensures ∙ first_value-rows found (codes "exposed");
     } in
-    no_output_mode_of_reads (rows_of found) _ _ _ _ c.output_mode_of.result reads c.output_mode_of.ensures.none
+    no_output_mode_of_reads (rows_of found) _ _ _ _ _ c.output_mode_of.result reads c.output_mode_of.ensures.none
 
 pub returns-in_err-is_live-clause-none : goal.returns-in_err-is_live-clause-none
 returns-in_err-is_live-clause-none c =

@@ -8,8 +8,8 @@
 // a debugger have a worker of their own, which can be ended at any time.
 
 const VERSIONS =
-  "The emulator needs WebAssembly with 64-bit memory, which is missing here. " +
-  "Chrome, Edge and Chromium have it since version 133, Firefox since 134, and node since 24.";
+  "The emulator needs WebAssembly as browsers have had it since 2021, which is missing here. " +
+  "Chrome, Edge and Chromium have it since version 85, Firefox since 79, Safari since 15, and node since 16.";
 const SUSPENDING =
   "The debugger needs WebAssembly calls that can be suspended, which are missing here. " +
   "Chrome, Edge and Chromium have them since version 137. Firefox ESR 153 has them too.";
@@ -106,19 +106,6 @@ class Heap {
   }
 
   grows(pages) {
-    try {
-      this.memory.grow(BigInt(pages));
-      return true;
-    } catch (error) {
-      if (error instanceof TypeError) {
-        return this.growsByNumber(pages);
-      }
-      return false;
-    }
-  }
-
-  // V8 before version 13 takes the number of pages as a number.
-  growsByNumber(pages) {
     try {
       this.memory.grow(pages);
       return true;

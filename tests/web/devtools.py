@@ -52,6 +52,11 @@ class Page:
             time.sleep(0.02)
         raise AssertionError(f"the page never had: {script[:200]}")
 
+    def processor_seconds(self) -> float:
+        """How long the page's thread had a processor so far. "Performance" has to be enabled for that, with the ticks of threads."""
+        found = {it["name"]: it["value"] for it in self.call("Performance.getMetrics")["metrics"]}
+        return float(found["ThreadTime"])
+
     def look(self, width: int, height: int, is_dark: bool = False) -> None:
         """Gives the page a width and a height in pixels, for who likes light pages or dark ones."""
         self.call("Emulation.setDeviceMetricsOverride", width=width, height=height, deviceScaleFactor=1, mobile=width < 600)

@@ -3,6 +3,7 @@
 from __future__ import annotations
 
 import json
+import os
 import pathlib
 import subprocess
 from typing import Dict, Iterator, List, Tuple
@@ -10,8 +11,8 @@ from typing import Dict, Iterator, List, Tuple
 import devtools
 from checks import REPO, Tally
 
-# In milliseconds, from the browser's first byte of the page to its first run.
-MOST_START = 300
+# In milliseconds, from the browser's first byte of the page to its first run; and how many times as long a start may take on a busy host.
+MOST_START, MOST_BUSY = 300, 4.0
 MOST_TRIES = 20
 WIDTHS = (400, 1400)
 # A program that makes 600 million instructions, and one that writes what would be markup.
@@ -31,20 +32,38 @@ CONTRAST = """(() => {
 })()"""
 EDITOR = "document.querySelector('.CodeMirror').CodeMirror"
 STATUS = "document.getElementById('status').textContent"
-IS_STILL = "!document.getElementById('run').disabled"
+IS_STILL = "document.getElementById('run').getAttribute('aria-disabled') === 'false'"
+FOCUS = "document.activeElement.id || document.activeElement.tagName"
+# Programs that fail, with what the page says of them and the lines that it marks.
+FAILING: Tuple[Tuple[str, str, List[int]], ...] = (
+    ("li a7, 3\necall\nli t0, 2\nbne a0, t0, fine\nla t1, 0xFFFFF000\nlw t2, 0(t1)\nfine: li a7, 1\necall\n",
+     "rank 2 stopped in superstep 0 at line 6: fault LoadOutside. The address", [6]),
+    ("li a7, 3\necall\nbeqz a0, out\nli a7, 4\necall\nout: li a7, 1\necall\n",
+     "desync: rank 0 ended at line 7, and rank 1 waits at line 5 for the end of superstep 0.", [5, 7]),
+    ("li a7, 4\necall\n", "rank 0 stopped in superstep 1 outside of the program: fault IllegalInstruction. There is no", []),
+    ("la a0, here\nhere: li a7, 99\n ecall\n", "rank 0 stopped in superstep 0 at line 3: fault UnknownCall. There is no call", [3]),
+)
+MARKED = "[...Array(document.querySelector('.CodeMirror').CodeMirror.lineCount()).keys()].filter((it) => EDITOR.lineInfo(it).bgClass === 'bad')"
 
 
 class Look:
     """A page that is looked at."""
 
     def __init__(self, page: devtools.Page, url: str, program: str) -> None:
-        self.page, self.url, self.program = page, url, program
+        self.page, self.url, self.program, self.script = page, url, program, ""
 
     def fresh(self, code: str = "") -> None:
         """Opens the page anew, with what stands behind the # of its address."""
         self.page.open("about:blank")
         self.page.open(self.url + code)
         self.page.wait("document.documentElement.dataset.ready || document.getElementById('status').className === 'error'")
+
+    def forget(self, is_forgotten: bool) -> None:
+        """Lets pages that are opened from now on find what the tab has kept, or not."""
+        if self.script:
+            self.page.call("Page.removeScriptToEvaluateOnNewDocument", identifier=self.script)
+        source = "try { sessionStorage.clear(); } catch {}"
+        self.script = self.page.call("Page.addScriptToEvaluateOnNewDocument", source=source)["identifier"] if is_forgotten else ""
 
     def text(self, name: str) -> str:
         """The text of a part of the page."""
@@ -78,7 +97,8 @@ class Look:
 def faults(page: devtools.Page, path: pathlib.Path, program: str) -> Iterator[Tuple[str, str]]:
     """The names of the checks, with what is wrong, or nothing."""
     look = Look(page, path.as_uri(), program)
-    for check in (starts, runs, compiled, refuses, steps, links, ends, hostile, drops, keys, widths):
+    look.forget(True)
+    for check in (starts, runs, compiled, refuses, fails, many, settings, steps, points, places, still, links, keeps, ends, hostile, drops, keys, focus, named, prints, widths):
         look.page.look(WIDTHS[1], 900)
         look.fresh()
         yield str(check.__doc__).rstrip("."), check(look)
@@ -88,12 +108,14 @@ def faults(page: devtools.Page, path: pathlib.Path, program: str) -> Iterator[Tu
 def starts(look: Look) -> str:
     """The page starts soon and loads nothing."""
     times: List[int] = []
+    busy = os.getloadavg()[0] / len(os.sched_getaffinity(0))
+    most = round(MOST_START * min(max(busy, 1.0), MOST_BUSY))
     # Only the fastest start counts, since the host has other work too.
-    while len(times) < MOST_TRIES and min(times, default=MOST_START) >= MOST_START:
+    while len(times) < MOST_TRIES and min(times, default=most) >= most:
         look.fresh()
         times.append(int(look.page.run("document.documentElement.dataset.ready || 100000")))
     loaded = look.page.run("performance.getEntriesByType('resource').map((it) => it.name).filter((it) => !it.startsWith('blob:')).join(' ')")
-    return f"it started after {times} ms" if min(times) >= MOST_START else loaded and f"it loaded {loaded}"
+    return f"it started after {times} ms, and not before {most} ms" if min(times) >= most else loaded and f"it loaded {loaded}"
 
 
 def same(look: Look, native: Tuple[str, str]) -> str:
@@ -136,13 +158,101 @@ def refuses(look: Look) -> str:
     return "" if said.startswith("line 3: UnknownMnemonic") and marked == "bad" else f"{said} {marked}"
 
 
+def fails(look: Look) -> str:
+    """A run that fails tells the superstep, the line and the reason."""
+    for text, wanted, lines in FAILING:
+        look.write(text)
+        said = look.do("run")
+        look.page.wait(f"{STATUS} !== 'It runs.' && {IS_STILL}")
+        said = look.page.run(STATUS)
+        marked = [it + 1 for it in look.page.run(MARKED.replace("EDITOR", EDITOR))]
+        if not said.startswith(wanted) or marked != lines:
+            return f"{said} {marked}"
+    return ""
+
+
+def many(look: Look) -> str:
+    """Of more supersteps than are shown, the costs are still those of all, and it says so."""
+    look.write("li s0, 1200\nnext: li a7, 4\necall\naddi s0, s0, -1\nbnez s0, next\nli a7, 1\necall\n")
+    look.do("run")
+    shown: str = look.text("total") + look.page.run("document.querySelector('#picture svg').textContent") + look.text("rows")
+    return "" if all(it in shown for it in ("first 200", "work, w: 4,803 ticks", "and 201 more supersteps")) else shown[:200] + shown[-100:]
+
+
+def settings(look: Look) -> str:
+    """A field with a number that cannot be used is named and gets the focus, and a large machine is one."""
+    look.set("memory", "5000")
+    said, place = look.do("run"), look.page.run(FOCUS)
+    look.set("memory", "4096")
+    look.set("nodes", "2000")
+    large = look.do("run")
+    is_right = said.startswith("Memory of a rank, in bytes: ") and place == "memory" and large.startswith("ended")
+    return "" if is_right and "rank 0" in look.text("output") else f"{said} {place} {large}"
+
+
+def points(look: Look) -> str:
+    """A breakpoint is set before stepping too, and moves with its line."""
+    look.set("examples", "broadcast.s")
+    line = line_of("broadcast.s", "check:") + 1
+    look.page.run(f"{EDITOR}.focus(); {EDITOR}.setCursor({{line: {line}, ch: 0}})")
+    look.page.press("F9")
+    look.page.run(f"{EDITOR}.replaceRange('# more\\n', {{line: 0, ch: 0}})")
+    look.do("debug")
+    said = look.do("go")
+    look.do("stop")
+    look.do("debug")
+    again = look.do("go")
+    return "" if said == again == f"stopped at rank 0, line {line + 2}." else f"{said} {again}"
+
+
+def places(look: Look) -> str:
+    """Memory is found by label, register and number, and a rank inside a statement of two instructions is at its line."""
+    look.write("li s0, 64\nla a0, box\nli a7, 1\necall\nbox: .word -7\n")
+    look.do("debug")
+    look.do("step")
+    look.do("step")
+    line = look.text("where").split()[1]
+    found = []
+    for text, base in (("box", "decimal"), ("s0", "decimal"), ("0x14", "hexadecimal"), ("boxes", "decimal")):
+        look.set("base", base)
+        look.page.wait(IS_STILL)
+        look.set("address", text)
+        look.page.wait(IS_STILL)
+        found.append(look.text("bytes").split()[:2])
+    wanted = [["00000014", "-7"], ["00000040", "0"], ["00000014", "f9"], ["This", "is"]]
+    return "" if line == "2" and found == wanted else f"{line} {found}"
+
+
+def still(look: Look) -> str:
+    """A step moves neither the page nor its buttons, and the line of the rank comes into view."""
+    moved = []
+    for width in (390, WIDTHS[1]):
+        look.page.look(width, 844)
+        look.fresh()
+        look.set("examples", "psum.c")
+        look.do("debug")
+        for name in ("step", "superstep", "step", "go"):
+            at = f"document.getElementById('{name}').getBoundingClientRect().top"
+            look.page.run(f"document.getElementById('{name}').scrollIntoView({{block: 'center'}})")
+            before = look.page.run(at)
+            look.page.run(f"document.getElementById('{name}').click()")
+            look.page.wait(IS_STILL)
+            if abs(look.page.run(at) - before) > 1:
+                moved.append(f"{width} {name} {before} {look.page.run(at)}")
+        look.do("back")
+        look.page.wait(IS_STILL)
+        if not look.page.run("!!document.querySelector('.CodeMirror-linebackground.here')"):
+            moved.append(f"{width}: no line is marked")
+    return "; ".join(moved)
+
+
 def steps(look: Look) -> str:
     """Steps go forwards and back, by instruction and by superstep, to a breakpoint and to the end."""
     look.set("examples", "broadcast.s")
     registers = []
     for name in ("debug", "step", "step", "step", "back", "superstep"):
         look.do(name)
-        registers.append((look.text("where").split()[1], look.page.run("document.querySelectorAll('#registers .changed').length")))
+        registers.append((look.text("where").split()[4], look.page.run("document.querySelectorAll('#registers .changed').length")))
     wanted = [("00000000", 0), ("00000004", 1), ("00000008", 0), ("0000000c", 0), ("00000008", 0)]
     if registers[:5] != wanted or look.text("where").split()[2] != "1":
         return f"{registers}"
@@ -180,13 +290,36 @@ def links(look: Look) -> str:
     return "" if is_right else f"{code} {has_all} {has_run} {said} {damaged}"
 
 
+def keeps(look: Look) -> str:
+    """Programs of one's own stay in the list when another one is chosen, and when the page is loaded again."""
+    look.set("examples", "ranks.s")
+    look.page.run(f"{EDITOR}.replaceSelection('x', 'end', '+input')")
+    look.set("examples", "broadcast.s")
+    is_example = "x" != look.page.run(f"{EDITOR}.getValue()[0]")
+    look.set("examples", "own 0")
+    look.set("nodes", "9")
+    look.forget(False)
+    look.page.open("about:blank")
+    look.page.open(look.url)
+    look.page.wait("document.documentElement.dataset.ready")
+    look.forget(True)
+    first, name = look.page.run(f"[{EDITOR}.getValue()[0], document.getElementById('examples').selectedOptions[0].text]")
+    nodes = look.page.run("document.getElementById('nodes').value")
+    look.page.run("URL.createObjectURL = (blob) => { blob.text().then((it) => { document.saved = it; }); return 'about:blank'; };")
+    look.page.run("HTMLAnchorElement.prototype.click = function () { document.savedName = this.download; };")
+    look.page.click("#save")
+    saved = look.page.wait("document.saved")
+    is_right = is_example and first == "x" and name == "my ranks.s" and nodes == "9" and saved.startswith("x# Each rank")
+    return "" if is_right and look.page.run("document.savedName") == "ranks.s" else f"{is_example} {first} {name} {nodes} {saved[:20]}"
+
+
 def ends(look: Look) -> str:
     """A run of 600 million instructions leaves the page usable, and can be stopped."""
     look.write(LONG)
     look.page.run("document.getElementById('nodes').value = 1; window.beats = 0; setInterval(() => window.beats += 1, 10)")
     look.page.click("#run")
     look.page.wait("window.beats > 30")
-    was_busy = look.page.run("document.getElementById('run').disabled")
+    was_busy = not look.page.run(IS_STILL)
     look.page.click("#stop")
     look.page.wait(IS_STILL)
     said = look.page.run(STATUS)
@@ -203,7 +336,7 @@ def hostile(look: Look) -> str:
     look.set("most", "16")
     look.write("li t0, 0\nli t1, 0x80000\nloop: sw t0, 0(t0)\nli t2, 4096\nadd t0, t0, t2\nbltu t0, t1, loop\nli a7, 4\necall\nli a7, 1\necall\n")
     said = look.do("run")
-    return "" if shown.startswith(MARKUP) and made == 0 and said == "no memory" else f"{shown} {made} {said}"
+    return "" if shown.startswith(MARKUP) and made == 0 and said.startswith("no memory: ") and "16 MiB" in said else f"{shown} {made} {said}"
 
 
 def drops(look: Look) -> str:
@@ -219,6 +352,9 @@ def drops(look: Look) -> str:
     fault = same(look, look.native(str(REPO / "examples/c/inner.elf"), "--float", "--nodes", "4", "--limit", "1000000000"))
     look.page.run(f"({drop})([127, 69, 76, 70, 1, 2, 3], 'bad.elf')")
     look.page.wait(f"{STATUS}.includes('image refused')")
+    for name, odd, said in (("mine.c", b"int x;", "a program in C"), ("picture.png", b"\x89PNG\xff", "neither a text nor an executable")):
+        look.page.run(f"({drop})({list(odd)}, '{name}')")
+        look.page.wait(f"{STATUS}.includes('{said}')")
     return fault
 
 
@@ -237,6 +373,46 @@ def keys(look: Look) -> str:
     look.page.press("Enter", 2)
     look.page.wait(f"!document.getElementById('result').hidden && {IS_STILL}")
     return "" if {"nodes", "g", "l", "run"} <= set(reached) else f"Tab leads to {reached}"
+
+
+def focus(look: Look) -> str:
+    """Who presses a button by a key can press it again, and hears where the rank is."""
+    found = []
+    for name, times in (("run", 2), ("debug", 1), ("step", 2), ("superstep", 1), ("back", 1), ("stop", 1)):
+        look.page.run(f"document.getElementById('{name}').focus()")
+        for _ in range(times):
+            look.page.press("Enter")
+            look.page.wait(f"{IS_STILL} && {STATUS} !== 'It runs.'")
+            found.append((name, look.page.run(FOCUS), look.page.run(STATUS)))
+    lost = [it for it in found if it[1] != {"debug": "step"}.get(it[0], it[0])]
+    told = [it[2] for it in found if it[0] in ("debug", "step")]
+    wanted = ["Rank 0 is at line 3, li a7, 3.", "Rank 0 is at line 4, ecall. Changed: a7 = 3.", "Rank 0 is at line 5, addi a0, a0, 48."]
+    return "" if not lost and told == wanted else f"{lost} {told}"
+
+
+def named(look: Look) -> str:
+    """All that the focus can reach has a name."""
+    look.do("run")
+    look.do("debug")
+    look.page.run("document.getElementById('result').hidden = false")
+    reached = "[...document.querySelectorAll('button, input:not([hidden]), select, textarea, [tabindex=\"0\"]')]"
+    names = "!(it.getAttribute('aria-label') || it.labels?.length || (it.tagName === 'BUTTON' && it.textContent.trim()))"
+    nameless = look.page.run(f"{reached}.filter((it) => {names}).map((it) => it.id || it.className || it.tagName).join(' ')")
+    return f"{nameless}"
+
+
+def prints(look: Look) -> str:
+    """What is printed has the whole program, and no buttons."""
+    wanted = 300
+    look.write("nop\n" * wanted)
+    look.page.call("Emulation.setEmulatedMedia", media="print")
+    look.page.run("dispatchEvent(new Event('beforeprint'))")
+    lines = look.page.run("document.querySelectorAll('.CodeMirror-line').length")
+    tall = look.page.run("document.querySelector('.CodeMirror').clientHeight / document.querySelector('.CodeMirror-line').clientHeight")
+    seen = look.page.run("[...document.querySelectorAll('button')].filter((it) => it.offsetParent).length")
+    look.page.run("dispatchEvent(new Event('afterprint'))")
+    look.page.call("Emulation.setEmulatedMedia", media="")
+    return "" if lines >= wanted and tall > 0.95 * wanted and seen == 0 else f"{lines} lines, as high as {tall:.0f}, and {seen} buttons"
 
 
 def widths(look: Look) -> str:

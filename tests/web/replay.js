@@ -79,46 +79,72 @@ function repliesOf(bytes) {
   return replies;
 }
 
+// A session of the debugger, reply by reply: how many there were, how it was refused, and what is wrong.
+async function conversation(bspemu, record, failRequest = 0) {
+  let session;
+  let count = 0;
+  try {
+    session = await bspemu.debug({ ...settingsOf(record), failRequest });
+    for (const [k, reply] of repliesOf(decoded(record.out)).entries()) {
+      const answer = await session.ask(record.lines[k]);
+      const text = joined([new TextEncoder().encode(`${answer.header}\n`), answer.bytes]);
+      count += 1;
+      if (!same(text, reply)) {
+        return { count, fault: `${record.lines[k]}: ${shown(text)}, and not ${shown(reply)}` };
+      }
+    }
+    return { count };
+  } catch (error) {
+    return error.name === "Refused" ? { count, refused: error } : { count, fault: String(error) };
+  } finally {
+    session?.end();
+  }
+}
+
 /** Sessions of the debugger, reply by reply. */
 export async function talk(bspemu, records) {
   const faults = [];
   let count = 0;
   for (const record of records) {
-    let session;
-    try {
-      session = await bspemu.debug(settingsOf(record));
-      for (const [k, reply] of repliesOf(decoded(record.out)).entries()) {
-        const answer = await session.ask(record.lines[k]);
-        const text = joined([new TextEncoder().encode(`${answer.header}\n`), answer.bytes]);
-        count += 1;
-        if (!same(text, reply)) {
-          faults.push(`${record.line}: ${record.lines[k]}: ${shown(text)}, and not ${shown(reply)}`);
-          break;
-        }
-      }
-    } catch (error) {
-      if (error.name !== "Refused" || error.message !== record.text || error.status !== record.status) {
-        faults.push(`${record.line}: ${error}, and not ${record.status} ${record.text}`);
-      }
+    const heard = await conversation(bspemu, record);
+    count += heard.count;
+    const told = heard.refused?.message ?? "";
+    const isOther = told !== record.text || (told !== "" && heard.refused.status !== record.status);
+    if (heard.fault !== undefined || isOther) {
+      faults.push(`${record.line}: ${heard.fault ?? `${told}, and not ${record.status} ${record.text}`}`);
     }
-    session?.end();
   }
   return { faults, count };
 }
 
-/** Each request for memory of a run is refused in turn: the refusal is said, or the answer is the whole one. */
+// What a call, or a session, comes to if a request for memory is refused: `refused`, or else a fault or nothing.
+async function starved(bspemu, record, request) {
+  if (record.call === "debug") {
+    const { refused, fault } = await conversation(bspemu, record, request);
+    const isRefused = refused !== undefined && refused.message === "no memory" && refused.status === 5;
+    return { isRefused, fault: fault ?? (refused === undefined || isRefused ? "" : String(refused)) };
+  }
+  const answer = await answerOf(bspemu, record, request);
+  const isRefused = answer.text === "no memory" && answer.status === 5;
+  return { isRefused, fault: isRefused ? "" : faultOf(record, answer) };
+}
+
+// A request that only makes a block smaller may be refused, and changes nothing. So many in a row, and there were no more requests.
+const MOST_UNCHANGED = 8;
+
+/** Each request for memory of a run or of a session is refused in turn: the refusal is said, or the answer is the whole one. What a session
+ * answered before is right. */
 export async function starve(bspemu, record, most) {
   const faults = [];
   let refused = 0;
-  for (let request = 1; request <= most; request++) {
-    const answer = await answerOf(bspemu, record, request);
-    if (answer.text === "no memory" && answer.status === 5) {
-      refused += 1;
-    } else if (faultOf(record, answer) !== "") {
-      faults.push(`request ${request}: ${faultOf(record, answer)}`);
-    } else {
-      break;
+  let unchanged = 0;
+  for (let request = 1; request <= most && unchanged < MOST_UNCHANGED; request++) {
+    const { isRefused, fault } = await starved(bspemu, record, request);
+    if (fault !== "") {
+      faults.push(`request ${request}: ${fault}`);
     }
+    refused += isRefused ? 1 : 0;
+    unchanged = isRefused ? 0 : unchanged + 1;
   }
   return { faults, refused };
 }

@@ -1,7 +1,7 @@
 // The beginning: unpacks what the page holds, and connects its parts.
 
-// What is shown at first, if the address is no link.
-const FIRST = "broadcast.s";
+// What is shown at first, if the address is no link: a new program.
+const FIRST = "";
 
 let runs, stepping;
 
@@ -10,13 +10,24 @@ function say(text, isError = false) {
   $("status").className = isError ? "error" : "";
 }
 
+// Lets a button be pressed or not. One that cannot be pressed keeps the focus: who presses it by a key can press it again afterwards.
+const allow = (id, isAllowed) => $(id).setAttribute("aria-disabled", String(!isAllowed));
+
 // Which buttons can be pressed now.
 function busy() {
   const isStill = !runs.isBusy && !stepping.isBusy;
   for (const id of ["run", "debug", "profile", "step", "over", "superstep", "go", "back", "point"]) {
-    $(id).disabled = !isStill;
+    allow(id, isStill);
   }
-  $("stop").disabled = !runs.isBusy && !stepping.isOn;
+  allow("stop", runs.isBusy || stepping.isOn);
+}
+
+// A button that cannot be pressed does nothing.
+function guard(event) {
+  if (event.target.closest('[aria-disabled="true"]')) {
+    event.preventDefault();
+    event.stopImmediatePropagation();
+  }
 }
 
 function stop() {
@@ -30,8 +41,32 @@ function stop() {
 // Copies the page's address with the program in it, where the browser lets it.
 async function copyLink(program) {
   history.replaceState(null, "", await program.link());
+  program.keep();
   const isCopied = await navigator.clipboard?.writeText(location.href).then(() => true, () => false);
   say(isCopied ? "The link is copied. It holds the program and the settings." : "The address of this page is now the link. Copy it from there.");
+}
+
+// Saves the program as a file: a text, or the executable.
+function save(program) {
+  const name = program.name === "" ? "program.s" : program.name.replace(/\.c$/, program.isText ? ".s" : ".elf");
+  const link = document.createElement("a");
+  link.href = URL.createObjectURL(new Blob([program.image ?? program.text]));
+  link.download = name;
+  link.click();
+  say(`The browser saves the program as ${name}.`);
+}
+
+// Makes all of a text be printed, and not only the lines that the window shows. Listings are too long for that.
+function connectPrinter(program, editor) {
+  const show = (isPrinted) => {
+    const isWhole = isPrinted && program.isText;
+    $("editor").classList.toggle("whole", isWhole);
+    editor.setOption("viewportMargin", isWhole ? Infinity : MARGIN);
+    editor.setOption("lineWrapping", isWhole);
+    editor.refresh();
+  };
+  addEventListener("beforeprint", () => show(true));
+  addEventListener("afterprint", () => show(false));
 }
 
 // Tries to do something with a program that somebody chose.
@@ -46,7 +81,11 @@ async function attempt(make) {
 function connectFiles(program) {
   const take = (files) => files[0] && attempt(() => program.takeFile(files[0]));
   $("open").onclick = () => $("file").click();
-  $("file").onchange = () => take($("file").files);
+  $("file").onchange = () => {
+    take($("file").files);
+    // So that the same file can be opened again.
+    setTimeout(() => void ($("file").value = ""));
+  };
   document.ondragover = (event) => {
     event.preventDefault();
     document.body.classList.add("drop");
@@ -59,9 +98,21 @@ function connectFiles(program) {
   };
 }
 
+// Says why nothing happens, if somebody types where a program cannot be changed.
+function sayFixed(program) {
+  if (stepping.isOn) {
+    say("To change the program, choose Stop first.");
+  } else if (!program.isText) {
+    say("A compiled program cannot be changed here. Choose another one, or a new program.");
+  }
+}
+
 function connect(program, editor) {
+  editor.on("keypress", () => sayFixed(program));
+  document.addEventListener("click", guard, true);
   $("examples").onchange = () => attempt(() => program.choose($("examples").value));
   $("link").onclick = () => attempt(() => copyLink(program));
+  $("save").onclick = () => save(program);
   $("run").onclick = () => runs.run();
   $("profile").onclick = () => runs.profile();
   $("debug").onclick = () => stepping.begin();
@@ -72,7 +123,9 @@ function connect(program, editor) {
   $("go").onclick = () => stepping.advance("go");
   $("back").onclick = () => stepping.back();
   $("point").onclick = () => stepping.toggle(editor.getCursor().line);
-  $("rank").onchange = $("address").onchange = () => stepping.work(async () => {});
+  $("rank").onchange = $("address").onchange = $("base").onchange = () => stepping.work(async () => {});
+  addEventListener("pagehide", () => program.keep());
+  connectPrinter(program, editor);
   connectFiles(program);
   addEventListener("hashchange", () => program.follow(location.hash.slice(1)));
 }
@@ -97,14 +150,16 @@ async function begin() {
   const editor = makeEditor(() => runs.run(), (line) => stepping.toggle(line));
   const bspemu = await loading;
   const examples = JSON.parse(await decoded("programs"));
-  const program = new Program(editor, bspemu, examples, () => (stepping.isOn ? stepping.end() : clearMarks(editor)));
+  const program = new Program(editor, bspemu, examples, () => stepping.end());
   runs = new Runs(program, bspemu);
   stepping = new Stepping(program, bspemu);
   program.offer();
   connect(program, editor);
-  $("examples").value = FIRST;
-  program.choose(FIRST);
-  await program.follow(location.hash.slice(1));
+  if (!program.restore()) {
+    $("examples").value = FIRST;
+    program.choose(FIRST);
+    await program.follow(location.hash.slice(1));
+  }
   // A short run now, so that the browser's compiler is done with the module before a long one.
   bspemu.runHere({ image: "li a7, 1\necall\n", report: false });
   busy();

@@ -4,6 +4,8 @@
 const COLORS = { work: "var(--work)", wait: "var(--wait)", exchange: "var(--exchange)", end: "var(--end)" };
 const MOST_BARS = 200;
 const MOST_ROWS = 64;
+// How many ranks the name of a picture tells of.
+const MOST_TOLD = 16;
 const LETTER = 6.2;
 // As wide as the page lets them be, so that their letters have one size on each screen.
 const widthHere = () => Math.max(300, Math.min(720, $("result").clientWidth));
@@ -56,7 +58,8 @@ function costsPicture(rows, g, l) {
   const left = 76;
   const low = 190;
   const parts = shown.map(({ w, h }) => [w, g * h, l]);
-  const sums = [0, 1, 2].map((part) => parts.reduce((sum, it) => sum + it[part], 0));
+  // The legend is of the whole run, also if there are more supersteps than bars.
+  const sums = rows.reduce((sum, { w, h }) => [sum[0] + w, sum[1] + g * h, sum[2] + l], [0, 0, 0]);
   const whole = Math.max(sums[0] + sums[1] + sums[2], 1);
   const most = Math.max(1, ...parts.map((it) => it[0] + it[1] + it[2]));
   const width = widthHere();
@@ -172,7 +175,8 @@ function bytesPicture(supersteps) {
   const size = Math.min(34, Math.min(400, width - 90) / rows);
   const [left, top] = [64, 40];
   const low = top + rows * size;
-  const svg = canvas(width, low + 40, "The bytes from rank to rank");
+  const told = sent.slice(0, MOST_TOLD).map((count, rank) => `rank ${rank} sent ${grouped(count)} and received ${grouped(received[rank])}`);
+  const svg = canvas(width, low + 40, `The bytes from rank to rank: ${told.join("; ")}${nodes > MOST_TOLD ? "; and so on" : ""}`);
   const most = Math.max(1, ...found.values());
   for (const [key, count] of found) {
     const [rank, to] = [Math.floor(key / rows), key % rows];

@@ -24,6 +24,11 @@ digit:
 `;
 // What a link holds beside the program and the input.
 const LINKED = ["nodes", "memory", "g", "l", "limit"];
+// How the names of one's own programs begin in the list, and where the browser keeps them until the tab is closed.
+const OWN = "own ";
+const KEPT = "bspemu programs";
+// With more ranks, the machine has to be large.
+const MOST_RANKS = 1024;
 // Statements of floating point.
 const FLOATS = /^\s*(?:[\w.]+\s*:\s*)*(?:f[a-z]+\.|fl[wd]\b|fs[wd]\b|fs?csr\b|frcsr\b|f[rs]rm\b|f[rs]flags\b|csr)/m;
 
@@ -41,9 +46,28 @@ function unitsOf(image, text) {
   return { float: (image[36] & 6) !== 0, atomic: said !== null && /[_a-z]a\d+p\d+/.test(said[0].replace(/^rv32/, "_")) };
 }
 
+// The text in a file, if it is one that the page can take.
+function textIn(name, bytes) {
+  let text = "";
+  try {
+    text = new TextDecoder("utf-8", { fatal: true }).decode(bytes);
+  } catch {
+    throw new Error(`${name} is neither a text nor an executable.`);
+  }
+  if (text.includes("\0")) {
+    throw new Error(`${name} is neither a text nor an executable.`);
+  }
+  if (/\.(?:c|h|cc|cpp)$/i.test(name) || IS_C.test(text)) {
+    throw new Error(`${name}: ${WANTS_COMPILER}`);
+  }
+  return text;
+}
+
 class Program {
   constructor(editor, bspemu, examples, changed) {
-    Object.assign(this, { editor, bspemu, examples, changed, name: "", image: undefined });
+    // What was written, changed or opened here is one's own: `at` says which of them is shown.
+    Object.assign(this, { editor, bspemu, examples, changed, name: "", image: undefined, own: [], at: -1, timer: 0 });
+    editor.on("change", (_, change) => change.origin !== "setValue" && this.edited());
   }
 
   get text() {
@@ -58,10 +82,72 @@ class Program {
   settings() {
     const number = (id) => $(id).valueAsNumber;
     const numbers = { nodes: number("nodes"), memory: number("memory"), g: number("g"), l: number("l"), limit: number("limit") };
-    return { ...numbers, ...unitsOf(this.image, this.text), hostMemory: number("most"), image: this.image ?? this.text, input: $("input").value };
+    const machine = { ...unitsOf(this.image, this.text), large: numbers.nodes > MOST_RANKS };
+    return { ...numbers, ...machine, hostMemory: number("most"), image: this.image ?? this.text, input: $("input").value };
   }
 
-  show(name, text, kind, source = "") {
+  // The first change of an example makes a program of one's own of it. The example stays as it is.
+  edited() {
+    if (this.at < 0) {
+      this.add(this.name === "" ? "my program" : `my ${this.name}`, {});
+    }
+    clearTimeout(this.timer);
+    this.timer = setTimeout(() => this.keep(), 500);
+  }
+
+  // Adds what is shown to one's own programs.
+  add(label, entry) {
+    const others = this.own.filter((it) => it.base === label).length;
+    this.at = this.own.push({ ...entry, name: this.name, base: label, label: others === 0 ? label : `${label} (${others + 1})` }) - 1;
+    this.offerOwn(this.at);
+    $("examples").value = OWN + this.at;
+    this.keep();
+  }
+
+  offerOwn(number) {
+    $("own").hidden = false;
+    $("own").append(new Option(this.own[number].label, OWN + number));
+  }
+
+  // Keeps one's own programs and the settings, for when the page is loaded again in this tab.
+  keep() {
+    const entry = this.own[this.at];
+    if (entry !== undefined) {
+      entry.input = $("input").value;
+      entry.text = this.isText ? this.text : undefined;
+    }
+    const numbers = Object.fromEntries([...LINKED, "most"].map((id) => [id, $(id).value]));
+    try {
+      sessionStorage.setItem(KEPT, JSON.stringify({ own: this.own, numbers, hash: location.hash, chosen: $("examples").value }));
+    } catch {
+      // There is no room for them, or the browser keeps nothing.
+    }
+  }
+
+  // Takes up what this tab has kept. Whether it shows the program of this address again.
+  restore() {
+    try {
+      const kept = JSON.parse(sessionStorage.getItem(KEPT));
+      this.own = kept.own;
+      this.own.forEach((_, number) => this.offerOwn(number));
+      if (kept.hash !== location.hash) {
+        return false;
+      }
+      [...LINKED, "most"].forEach((id) => void ($(id).value = kept.numbers[id]));
+      $("examples").value = kept.chosen;
+      this.choose(kept.chosen);
+      return true;
+    } catch {
+      this.own = [];
+      return false;
+    }
+  }
+
+  show(name, image, text, kind, source = "") {
+    clearTimeout(this.timer);
+    this.keep();
+    this.at = -1;
+    this.image = image;
     this.changed();
     this.name = name;
     this.editor.setOption("readOnly", !this.isText);
@@ -76,27 +162,35 @@ class Program {
   }
 
   takeText(name, text) {
-    this.image = undefined;
-    this.show(name, text, "Assembly language. Change it as you like.");
+    this.show(name, undefined, text, "Assembly language. Change it as you like.");
   }
 
   takeElf(name, bytes, source = "") {
     const listing = this.bspemu.list(bytes, { ...unitsOf(bytes), hostMemory: $("most").valueAsNumber });
-    this.image = bytes;
-    this.show(name, listing, `${name}, compiled: its instructions, which you can step through.`, source);
+    this.show(name, bytes, listing, `${name}, compiled: its instructions, which you can step through.`, source);
   }
 
   async takeFile(file) {
     const bytes = new Uint8Array(await file.arrayBuffer());
-    $("examples").value = "";
     if (isExecutable(bytes)) {
       this.takeElf(file.name, bytes);
+      this.add(file.name, { elf: textOf(bytes) });
     } else {
-      this.takeText(file.name, new TextDecoder().decode(bytes));
+      this.takeText(file.name, textIn(file.name, bytes));
+      this.add(file.name, {});
     }
   }
 
   choose(name) {
+    this.keep();
+    const number = name.startsWith(OWN) ? Number(name.slice(OWN.length)) : -1;
+    const entry = this.own[number];
+    if (entry !== undefined) {
+      entry.elf === undefined ? this.takeText(entry.name, entry.text) : this.takeElf(entry.name, bytesOf(entry.elf));
+      this.at = number;
+      $("input").value = entry.input;
+      return;
+    }
     const example = this.examples[name];
     if (example === undefined) {
       this.takeText("", BEGINNING);
@@ -114,7 +208,8 @@ class Program {
     for (const name of Object.keys(this.examples)) {
       groups[name.endsWith(".c") ? "C, compiled" : "Assembly language"].push(new Option(name, name));
     }
-    $("examples").append(new Option("a new program", ""));
+    const own = Object.assign(document.createElement("optgroup"), { id: "own", label: "Yours, until this tab is closed", hidden: true });
+    $("examples").append(new Option("a new program", ""), own);
     for (const [label, options] of Object.entries(groups)) {
       const group = document.createElement("optgroup");
       group.label = label;
@@ -145,18 +240,22 @@ class Program {
     try {
       const kept = await fromLink(code);
       const name = String(kept.name ?? "");
-      if (typeof kept.text === "string") {
+      const label = `${name === "" ? "program" : name} of a link`;
+      if (typeof kept.text === "string" && kept.text !== this.examples[name]?.text) {
         this.takeText(name, kept.text);
+        this.add(label, {});
       } else if (typeof kept.elf === "string") {
         this.takeElf(name, bytesOf(kept.elf));
+        this.add(label, { elf: kept.elf });
       } else {
         this.choose(name);
+        $("examples").value = name;
       }
       for (const id of LINKED.filter((it) => /^\d+$/.test(kept[it]))) {
         $(id).value = kept[id];
       }
-      $("examples").value = this.examples[name]?.text === kept.text || this.examples[name]?.elf ? name : "";
       $("input").value = String(kept.input ?? "");
+      this.keep();
       say("This program came with the link. It runs when you choose Run or Step.");
     } catch {
       say("The link is damaged, so its program cannot be shown.", true);

@@ -50,6 +50,8 @@ def parser() -> Parser:
     add("--out", metavar="DIR", help="write the program's files below DIR; default: the current folder")
     add("--no-files", action="store_true", help="let the program write no files, and read only those that you give it")
     add("--report", metavar="FILE", help="write the costs to FILE, as CSV or JSON if its name ends so; - is standard error")
+    add("--page", metavar="FILE", help="write a page in one file of HTML, which has the machine, the program, its sources and its input, and shows the run")  # fmt: skip
+    add("--recorded", action="store_true", help="write that page with a recorded run of at most 8 MiB, and without the machine")
     add("--profile", metavar="FILE", help="write what each rank did in each superstep to FILE, as CSV for bspplot")
     add("--summary", action="store_true", help="print the totals and the most expensive supersteps on standard error")
     add("--apart", choices=["printing"], help="leave the work of output functions out of --summary and --profile; --report keeps it")
@@ -85,7 +87,7 @@ def flags(reader: Parser) -> list[str]:
     except (ValueError, Refused) as fault:
         raise Refused(f"{FLAGS} in the environment is {text!r}: {fault}") from fault
     if asked.program != FLAGS or asked.args:
-        raise Refused(f"{FLAGS} in the environment is {text!r}, and takes options of bsprun alone")
+        raise Refused(f"{FLAGS} in the environment is {text!r}, but can only have options of bsprun")
     return found
 
 
@@ -96,17 +98,41 @@ def arguments(words: list[str]) -> argparse.Namespace:
     asked = reader.parse_args(words)
     asked.check, asked.warn = asked.check or asked.strict, asked.warn or asked.strict
     if asked.order is not None and asked.portable:
-        raise Refused("--portable chooses by itself: leave it or --order out")
+        raise Refused("--portable makes its own choices: leave out --portable or --order")
     # Parts of requests that are left out are not of whole elements.
     asked.no_check |= asked.order is not None
     if asked.no_files and asked.out is not None:
-        raise Refused("--no-files leaves nothing for --out to do: leave one of the two out")
+        raise Refused("with --no-files there is nothing for --out to write: leave out one of the two")
+    if asked.page is not None:
+        expect_page_alone(asked)
+    elif asked.recorded:
+        raise Refused("--recorded is for --page: give that too")
     asked.is_here = asked.out is None and not asked.no_files
     asked.out = os.curdir if asked.is_here else asked.out
     if asked.apart and not asked.summary and asked.profile is None:
-        raise Refused("--apart printing is for --summary and --profile: give one of them")
-    tell([f"bsprun: {it} behind PROGRAM is an argument of the program" for it in reader.own(words, asked.args)])
+        raise Refused("--apart printing needs --summary or --profile: give one of them")
+    tell([f"bsprun: {it} after PROGRAM is an argument of the program" for it in reader.own(words, asked.args)])
     return asked
+
+
+# What a page does not do, since the program is not run where it is written.
+NOT_OF_PAGES = ("out", "report", "profile", "summary", "apart", "lines", "fold", "lines_as", "warn", "portable", "order", "wall")
+
+
+def expect_page_alone(asked: argparse.Namespace) -> None:
+    """Refuses options of a run beside --page. A program in a page writes no files."""
+    given = next((it for it in NOT_OF_PAGES if getattr(asked, it) and not asked.strict), None)
+    if given is not None:
+        raise Refused(f"--page shows the run in the page, so --{given.replace('_', '-')} has nothing to do: leave one of the two out")
+    asked.no_files = True
+
+
+def write_page(options: argparse.Namespace, folder: pathlib.Path, words: list[str]) -> int:
+    """Writes the page of a program."""
+    from ..stage.run_page import write
+
+    write(prepared(options, folder, "bsprun"), options.page, shlex.join(["bsprun", *words]), folder, options.recorded)
+    return 0
 
 
 def deliver(job: Job, done: Done) -> int:
@@ -122,7 +148,7 @@ def deliver(job: Job, done: Done) -> int:
     if found is None:
         return done.status
     if done.status == UNWRITTEN and options.profile is not None:
-        tell([f"bsprun: {options.profile}: the profile could not be written there; the output is whole"])
+        tell([f"bsprun: {options.profile}: the profile could not be written there; the output is complete"])
     # What has no part in most runs is loaded where it is wanted, so that these begin sooner.
     if options.report == "-":
         streams.report(found.text)
@@ -144,7 +170,7 @@ def deliver(job: Job, done: Done) -> int:
         chosen = chosen_status(job, found, done.records)
         is_whole = tell_records(job, done.records, found, untold=STATUS if chosen is not None and chosen.is_of_all else "")
     if done.has_null and job.mark:
-        tell(["bsprun: a text that is NULL was printed, as by puts or %s: the output has what stands at address 0"])
+        tell(["bsprun: a NULL text was printed, as by puts or %s: the output has the bytes at address 0"])
     is_told = tell_offsets(job, found, done.seconds)
     if options.summary or options.apart or options.warn or wants_counts(options) or (found.outcome != "ended" and chosen is None):
         from ..run.closing_messages import tell_of
@@ -153,7 +179,7 @@ def deliver(job: Job, done: Done) -> int:
     # A program may end with a status of its own.
     options.is_tried = found.outcome == "ended" or found.outcome.endswith("stopped: aborted")
     if options.portable and not options.is_tried:
-        tell(["bsprun: not tried: other choices, since the run does not end well as it is"])
+        tell(["bsprun: not tried: other choices, because the run itself fails"])
     status = done.status if chosen is None else chosen.status
     return status if is_whole else status or REFUSED
 
@@ -178,7 +204,7 @@ def tell_where(job: Job, begin: str, stopped: Stopped, is_awaited: bool) -> None
         from ..run.record_messages import put_files
 
         if put_files(job, stopped.records).files:
-            tell([f"bsprun: files in {job.options.out} have what was written before the superstep in which the run was ended"])
+            tell([f"bsprun: files in {job.options.out} contain what was written before the superstep in which the run was stopped"])
     show("bsprun: looking for where the ranks were: Ctrl-C leaves that out")
     line = f"bsprun: {begin} after {stopped.seconds:.1f} s"
     try:
@@ -203,14 +229,14 @@ def run(job: Job, beside: Beside, folder: pathlib.Path, repeated: Repeated) -> i
         return status
     except Fewer as fewer:
         count, nodes = fewer.count, job.options.nodes
-        tell([f"bsprun: the program takes {count} nodes in bsp_begin, and so it has these, and not {nodes}"])
+        tell([f"bsprun: the program asks for {count} nodes in bsp_begin, so it gets these and not {nodes}"])
         job.give_nodes(count)
         return run(job, beside, folder, repeated)
     except Wanted as wanted:
         names = [it for name in wanted.names for it in with_others(name)]
         names = [it for it in dict.fromkeys(names) if it not in job.options.found]
         more = f" and {counted(len(names) - 1, 'more file')}" if len(names) > 1 else ""
-        tell([f"bsprun: the program reads {names[0]}{more}: it is run again with that, as with --file"])
+        tell([f"bsprun: the program reads {names[0]}{more}: it runs again with {'these files' if more else 'that file'}, as with --file"])
         job.give(names, folder)
         repeated.again()
         return run(job, beside, folder, repeated)
@@ -241,11 +267,13 @@ def main(words: list[str]) -> int:
         options.accepted = Accepted(options.accept, options.accept_all)
     if options.out is not None and not os.path.isdir(options.out):
         if os.path.lexists(options.out):
-            raise Refused(f"--out wants a folder, which {options.out} is not")
+            raise Refused(f"--out needs a folder, and {options.out} is not one")
         with about(options.out):
             os.mkdir(options.out)
     options.folder = None if options.out is None else files.Folder.of(options.out)
     with children.folder("bsprun") as folder, contextlib.closing(Beside(folder)) as beside:
+        if options.page is not None:
+            return write_page(options, folder, words)
         job = prepared(options, folder, "bsprun", is_marked=True, beside=beside.build)
         if options.order is not None:
             from ..portable.orders import with_order

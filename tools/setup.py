@@ -15,6 +15,8 @@ TOP = pathlib.Path(__file__).resolve().parent.parent
 # Files and folders, by their names at the top of the repository. The starters of the tools find the packages by tools/__main__.py.
 COPIED = ["bspemu", "bspcc", "bsprun", "bspgdb", "bspplot", "bspsweep", "bspcheck", "bsplib", "prebuilt/bspemu", "prebuilt/kit", "scripts/toolchain"]
 COPIED += ["tools/__main__.py", "LICENSE"]
+# What bsprun makes pages of.
+COPIED += ["prebuilt/bspemu.wasm", "web/bspemu.js", "web/page/packed.js", "web/stage"]
 SHARE = "bspemu/share"
 # What tells the commit, which the commands say with --version.
 GIT = ["git", "describe", "--always", "--dirty", "--exclude=*"]

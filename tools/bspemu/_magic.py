@@ -32,13 +32,16 @@ def bsp(line: str, cell: str) -> Any:
     reader.add_argument("--g", default="1")
     reader.add_argument("--l", default="0")
     reader.add_argument("--name", default="bsp_run")
-    words = shlex.split(line)
+    try:
+        words = shlex.split(line)
+    except ValueError as error:
+        raise BspError(f"{line}: {error}; {HELP}") from error
     own = words[: words.index("--")] if "--" in words else words
     asked, options = reader.parse_known_args(own)
     expect_free(options)
     with children.folder("bspemu") as folder:
         source = folder / "cell.c"
-        source.write_text(cell, encoding="utf-8")
+        source.write_text(cell, encoding="utf-8", errors="surrogatepass")
         # The headers of a cell lie beside the notebook.
         run = made([*options, f"-I{os.getcwd()}", str(source), *words[len(own) + 1 :]], str(source), b"", check=True)
     show(run, asked)

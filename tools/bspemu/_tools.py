@@ -4,7 +4,7 @@ from __future__ import annotations
 
 import os
 import pathlib
-import select
+import selectors
 import signal
 import subprocess
 import sys
@@ -73,15 +73,18 @@ def _heard(child: "subprocess.Popen[bytes]") -> Tuple[bytes, bytes]:
     assert child.stdout is not None and child.stderr is not None
     parts = {child.stdout.fileno(): bytearray(), child.stderr.fileno(): bytearray()}
     output, told = parts.values()
-    left = list(parts)
-    while left:
-        for number in select.select(left, [], [])[0]:
-            piece = os.read(number, CHUNK)
-            parts[number] += piece
-            if not piece:
-                left.remove(number)
-        if len(output) + len(told) > MOST_OUTPUT:
-            raise BspError(f"the program writes more than {MOST_OUTPUT} bytes, which are the most here: run it by bsprun, with its output in a file")
+    # A notebook may have more files open than select() takes numbers of.
+    with selectors.DefaultSelector() as left:
+        for number in parts:
+            left.register(number, selectors.EVENT_READ)
+        while left.get_map():
+            for key, _ in left.select():
+                piece = os.read(key.fd, CHUNK)
+                parts[key.fd] += piece
+                if not piece:
+                    left.unregister(key.fd)
+            if len(output) + len(told) > MOST_OUTPUT:
+                raise BspError(f"the program writes more than {MOST_OUTPUT} bytes, which are the most here: run it by bsprun, with its output in a file")
     child.wait()
     return bytes(output), bytes(told)
 

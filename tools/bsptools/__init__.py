@@ -4,7 +4,7 @@ A module imports modules of its own package, without a circle, and of the packag
 beside this file. No two modules have the same name. `tests/style` looks at both.
 
     commands   commands
-    tools      run  plot  sweep  debug  dialogue  marking  probe
+    tools      run  plot  sweep  debug  dialogue  marking  probe  stage
     findings   diagnosis
     choices    portable
     runs       prepare  counts  reverse

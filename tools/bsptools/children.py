@@ -17,6 +17,7 @@ import subprocess
 import tempfile
 import threading
 import time
+import zlib
 from collections.abc import Callable, Iterator, Sequence
 from typing import Any, NoReturn
 
@@ -31,8 +32,10 @@ SI_KERNEL = 0x80
 PATIENCE, POLL = 1, 0.1
 # What ends a tool from outside. Each comes to the same end as Ctrl-C: temporary folders are removed, and children are ended.
 SIGNALS = (signal.SIGTERM, signal.SIGHUP, signal.SIGQUIT)
+# What the names of folders for a while have of the host's: other hosts may have the folder above them too, and locks of their own.
+HERE = f"{zlib.crc32(os.uname().nodename.encode()):08x}"
 # How the names of folders end that are there for a while, and all such names; and for how many seconds one that is hidden is new.
-ENDING, LEFT, HIDDEN_SECONDS = ".tmp", re.compile(r"\.?bsp[a-z]+-[a-z0-9_]{8}\.tmp"), 60
+ENDING, LEFT, HIDDEN_SECONDS = ".tmp", re.compile(rf"\.?bsp[a-z]+-{HERE}-[a-z0-9_]{{8}}\.tmp"), 60
 # Where folders for a while go, unless the environment names another place.
 PLACES = ("/tmp", "/var/tmp")
 # How many times as long something may take where the host is busy.
@@ -307,7 +310,7 @@ def place() -> str:
 @functools.lru_cache(maxsize=None)
 def _tell_of_place(chosen: str, held: str) -> None:
     """Says once that the folder for such things is another one than that of TMPDIR."""
-    tell([f"temporary files are in {held}, since others may rename what is in {chosen}"])
+    tell([f"temporary files are in {held}, because other users may rename files in {chosen}"])
 
 
 @contextlib.contextmanager
@@ -338,7 +341,7 @@ def folder(name: str, above: str = "") -> Iterator[pathlib.Path]:
 
 def _locked_folder(name: str, above: str) -> tuple[str, int]:
     """A new folder, and the number of a file that holds its lock as long as this process is there. It has a hidden name until it is locked."""
-    hidden = tempfile.mkdtemp(prefix=f".{name}-", suffix=ENDING, dir=above)
+    hidden = tempfile.mkdtemp(prefix=f".{name}-{HERE}-", suffix=ENDING, dir=above)
     path = os.path.join(above, os.path.basename(hidden)[1:])
     try:
         lock = os.open(hidden, os.O_RDONLY | os.O_DIRECTORY)
@@ -354,7 +357,7 @@ def _locked_folder(name: str, above: str) -> tuple[str, int]:
 
 
 def _remove_left(above: str) -> None:
-    """Removes the folders of processes that are gone: nobody holds their locks. A hidden one may not be locked yet."""
+    """Removes the folders of processes of this host that are gone: nobody holds their locks. A hidden one may not be locked yet."""
     with contextlib.suppress(OSError):
         for name in os.listdir(above):
             if LEFT.fullmatch(name) is None:

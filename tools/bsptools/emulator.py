@@ -38,7 +38,7 @@ def named() -> str:
     """The emulator that BSPEMU in the environment names, if it names one."""
     name = os.environ.get("BSPEMU", "")
     if name and shutil.which(name) is None:
-        raise Refused(f"BSPEMU in the environment names {name}, which is no program")
+        raise Refused(f"BSPEMU in the environment names {name}, which is not a program")
     return name
 
 
@@ -77,7 +77,7 @@ def heard(*words: str) -> tuple[str, list[str]]:
         raise Refused(f"{words[0]}: {error.strerror}") from error
     lines = lines_of(done.stderr)
     if done.returncode != 0:
-        raise Refused(f"{words[0]} does not start: it ends with status {done.returncode}", *lines)
+        raise Refused(f"{words[0]} did not start: it ended with status {done.returncode}", *lines)
     return os.fsdecode(done.stdout).rstrip("\n"), lines
 
 

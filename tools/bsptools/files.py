@@ -65,9 +65,9 @@ def _ordinary(path: str | os.PathLike[str], most: int, flags: int = 0, is_believ
     with about(path), os.fdopen(os.open(path, os.O_RDONLY | os.O_NONBLOCK | flags), "rb") as file:
         found = os.fstat(file.fileno())
         if not stat.S_ISREG(found.st_mode):
-            raise Refused(f"{os.fspath(path)} is no ordinary file")
+            raise Refused(f"{os.fspath(path)} is not a regular file")
         if is_believed and (found.st_uid != os.geteuid() or found.st_mode & own_folders.OTHERS_WRITE):
-            raise Refused(f"{os.fspath(path)} is another user's, or others may write it")
+            raise Refused(f"{os.fspath(path)} belongs to another user, or other users may write to it")
         return _bytes_of(file, path, most)
 
 
@@ -106,7 +106,7 @@ def replaced(path: str | os.PathLike[str]) -> Iterator[str]:
     """A file to write, which takes the place of this one at the end of the block, so that this one is never there in part. Where nothing
     is written, nothing is replaced.
 
-    A link stays, and leads to the new file. What is no ordinary file, as a pipe, is written to as it is. In a folder where others may rename
+    A link stays, and leads to the new file. What is not a regular file, as a pipe, is written to as it is. In a folder where others may rename
     what is there, the new file is written by its number: a link could have its name by then.
     """
     _expect_own_link(path)
@@ -147,7 +147,7 @@ def _expect_own_link(path: str | os.PathLike[str]) -> None:
             return
         link, above = os.lstat(place), os.stat(folder)
         if above.st_mode & stat.S_IWOTH and link.st_uid not in (os.geteuid(), above.st_uid):
-            raise Refused(f"{os.fspath(path)} is a link of another user's: give another name")
+            raise Refused(f"{os.fspath(path)} is a symbolic link of another user: give another name")
         place = os.path.join(folder, os.readlink(place))
 
 
@@ -214,9 +214,9 @@ def expect_apart(outputs: Iterable[str | None], inputs: Iterable[str | None]) ->
     read, written = list(filter(None, inputs)), list(filter(None, outputs))
     for i, output in enumerate(written):
         for other in filter(lambda it: is_same(output, it), read):
-            raise Refused(f"{output} would be overwritten, and it is read as {other}")
+            raise Refused(f"{output} would be overwritten, but it is also read as {other}")
         for other in filter(lambda it: is_same(output, it), written[:i]):
-            raise Refused(f"{output} would be written twice: as {other} too")
+            raise Refused(f"{output} would be written twice: it is also {other}")
 
 
 def expect_writable(outputs: Iterable[str | None]) -> None:
@@ -232,7 +232,7 @@ def expect_ordinary(paths: Iterable[str], named_by: str) -> None:
     """Refuses files that another file names, and no person, if one is a pipe or a device: it may have no end."""
     for path in paths:
         if os.path.exists(path) and not os.path.isfile(path):
-            raise Refused(f"{path}, which {named_by} names, is no ordinary file")
+            raise Refused(f"{path}, which {named_by} names, is not a regular file")
 
 
 def is_same(one: str, other: str) -> bool:

@@ -60,7 +60,7 @@ class Tree:
                 continue
             is_below = not name.startswith("/") and ".." not in words and last not in ("", ".") and "\0" not in name
             if not is_below:
-                raise Refused(f"{self.root / self.record} names {name}, which is not below {self.root}: take that line out of it")
+                raise Refused(f"{self.root / self.record} names {name}, which is not below {self.root}: remove that line")
             if folder not in known:
                 self._expect_own(folder)
                 known[folder] = os.path.commonpath([top, os.path.realpath(self.root / folder)]) == top
@@ -72,7 +72,7 @@ class Tree:
         could in what is above a new prefix, unless that has the sticky bit."""
         above = next(filter(os.path.exists, (self.root, *self.root.parents)))
         if above != self.root and not own_folders.is_held(above):
-            raise Refused(f"others may rename what is in {above}: do this as its owner, or name a folder of yours by --prefix")
+            raise Refused(f"other users may rename files in {above}: do this as its owner, or give a folder of yours by --prefix")
         for it in (folder, *map(str, pathlib.PurePath(folder).parents)):
             path = os.path.normpath(self.root / it)
             try:
@@ -81,9 +81,9 @@ class Tree:
                 continue
             # Root may write anywhere. A group that may write into a prefix, as Debian's staff, is trusted.
             if found.st_uid not in (0, os.geteuid()):
-                raise Refused(f"{path} belongs to another user: do this as its owner, or name a folder of yours by --prefix")
+                raise Refused(f"{path} belongs to another user: do this as its owner, or give a folder of yours by --prefix")
             if found.st_mode & stat.S_IWOTH:
-                raise Refused(f"{path} is a folder where all users may write: take that right away, or name a folder of yours by --prefix")
+                raise Refused(f"{path} is a folder that all users may write to: change that, or give a folder of yours by --prefix")
 
     def expect_room(self, names: Iterable[str]) -> None:
         """Refuses to write over a file that is there and is not recorded, and over a folder."""
@@ -92,7 +92,7 @@ class Tree:
         for name in sorted(names):
             path = self.root / name
             if os.path.lexists(path) and (name not in known or path.is_dir() and not path.is_symlink()):
-                raise Refused(f"{path} is there, and this script did not install it")
+                raise Refused(f"{path} already exists, and this script did not install it")
 
     # Changes.
 
@@ -242,7 +242,7 @@ class Tree:
         try:
             fcntl.flock(self._lock, fcntl.LOCK_EX | fcntl.LOCK_NB)
         except BlockingIOError as error:
-            raise Refused(f"another scripts/install is at work in {self.root}") from error
+            raise Refused(f"another scripts/install is running in {self.root}") from error
         except OSError:
             pass
 

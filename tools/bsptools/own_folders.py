@@ -60,7 +60,7 @@ def expect_held(path: str | os.PathLike[str]) -> None:
     """Refuses a new folder in one where others may rename what is there: while it is filled, a link could take its place."""
     above = next(filter(os.path.exists, pathlib.Path(path).absolute().parents))
     if not is_held(above):
-        raise Refused(f"others may rename what is in {above}: name another folder")
+        raise Refused(f"other users may rename files in {above}: give another folder")
 
 
 def drop_homes_of_others() -> None:
@@ -95,8 +95,8 @@ def make(path: str | os.PathLike[str]) -> str:
 
 def cache(*names: str) -> str:
     """The folder of these names, one below the other, in the user's folder of what is kept from run to run and can be made again; it is made
-    where it is not there. Nothing where no absolute path leads to it, where it is not this user's own, or where it would be made in
-    another's folder, as with sudo."""
+    where it is not there. Nothing where no absolute path leads to it, where it is not this user's own, where others may rename it, or where it
+    would be made in another's folder, as with sudo."""
     return _kept("XDG_CACHE_HOME", [".cache"], names)
 
 
@@ -126,8 +126,8 @@ def _kept(variable: str, below_home: list[str], names: Sequence[str]) -> str:
                 with contextlib.suppress(FileExistsError):
                     os.mkdir(place, PRIVATE)
             why = fault(place)
-            # What others put into a folder above is theirs, or a link, and so is seen.
-            if why and (why != OTHERS_MAY_WRITE or place == places[-1]):
+            # What others put into a folder above is theirs, or a link, and so is seen; but not where it is put there after this.
+            if not is_held(os.path.dirname(place)) or why and (why != OTHERS_MAY_WRITE or place == places[-1]):
                 return ""
     except (OSError, StopIteration, ValueError):
         return ""

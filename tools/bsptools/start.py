@@ -76,7 +76,7 @@ def ended(name: str, work: Callable[[], int]) -> int:
         last = traceback.extract_tb(error.__traceback__)[-1]
         where = f"{os.path.relpath(FOLDER / last.filename, FOLDER)}:{last.lineno}"
         what = " ".join(f"{type(error).__name__}: {error}".split())
-        tell([f"{name}: this is a mistake of {name} itself, at {where}: {what}; CONTRIBUTING.md says how to report it"])
+        tell([f"{name}: this is a bug of {name} itself, at {where}: {what}; CONTRIBUTING.md says how to report it"])
         return BUG
 
 

@@ -1,9 +1,10 @@
-Workers, slices, live output, a profile, counts, contested bytes and the debugger change no clock.
+Workers, slices, live output, a profile, counts, contested bytes, exposed bytes and the debugger change no clock.
 
   $ bspemu run programs/clocks.s --format asm --nodes 5 --clock --g 3 --l 100 >one
-  $ for way in '--workers 3' '--workers 5 --slice 1' '--live --workers 2 --slice 3' '--profile p' '--counts c' '--contested d'; do
+  $ for way in '--workers 3' '--workers 5 --slice 1' '--live --workers 2 --slice 3' '--profile p' '--counts c' '--contested d' '--exposed e'; do
   >   bspemu run programs/clocks.s --format asm --nodes 5 --clock --g 3 --l 100 $way | cmp - one && echo same
   > done
+  same
   same
   same
   same

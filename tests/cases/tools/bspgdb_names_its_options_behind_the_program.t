@@ -1,4 +1,4 @@
   $ bspgdb absent.elf --nodes 2
-  bspgdb: --nodes 2 behind PROGRAM is an argument of the program (stderr)
+  bspgdb: --nodes 2 after PROGRAM is an argument of the program (stderr)
   bspgdb: absent.elf: No such file or directory (stderr)
   [1]

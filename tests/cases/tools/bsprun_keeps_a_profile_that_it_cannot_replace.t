@@ -3,7 +3,7 @@ A profile that was not written to its end is named, and what stood there stays.
   $ bsprun --profile /dev/full examples/ranks.elf
   0 (no-eol)
   bspemu: write failed (stderr)
-  bsprun: /dev/full: the profile could not be written there; the output is whole (stderr)
+  bsprun: /dev/full: the profile could not be written there; the output is complete (stderr)
   [6]
   $ echo old >profile.csv
   $ (ulimit -f 4; bsprun -n 64 --profile profile.csv examples/one_put.s)

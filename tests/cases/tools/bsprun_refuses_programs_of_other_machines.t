@@ -12,5 +12,5 @@ An ELF file that is of another machine, or was not linked, is refused with what 
   bsprun: part.o is an object, which is not linked: bspcc -o PROGRAM.elf makes a program of it (stderr)
   [1]
   $ bsprun --out /dev/null examples/ranks.elf
-  bsprun: --out wants a folder, which /dev/null is not (stderr)
+  bsprun: --out needs a folder, and /dev/null is not one (stderr)
   [1]

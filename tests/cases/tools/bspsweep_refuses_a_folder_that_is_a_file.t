@@ -1,3 +1,3 @@
   $ echo a file >written && bspsweep --engine plain --folder written examples/one_put.s
-  bspsweep: no results can be kept in */written: it is not a folder; --folder names another place (stderr) (glob)
+  bspsweep: no results can be saved in */written: it is not a folder. Give another folder by --folder (stderr) (glob)
   [1]

@@ -253,7 +253,7 @@ def who_wrote_is_broken_off(bench: Bench) -> None:
     said = terminal.wait(r"stopped\.\n(?:.*\n)*.*\(gdb\) ")
     for _ in range(TRIES):
         terminal.type("monitor wrote 0 first\r")
-        said += terminal.wait(r"bspgdb: what was before is made once more, .*; Ctrl-C breaks it off\n")
+        said += terminal.wait(r"bspgdb: the earlier state is computed again, .*; Ctrl-C breaks it off\n")
         terminal.type("\x03")
         answer = terminal.wait(r"(?:bspgdb: interrupted|<first> to .*)\n(?:.*\n)*?.*\(gdb\) ")
         said += answer
@@ -326,11 +326,11 @@ def asked_wrongly(bench: Bench) -> None:
     commands += ["monitor call bsp_put to", "monitor superstep x", "monitor queue 3", "monitor queue x", "monitor queue", "monitor call bsp_put to 2 to 1", "monitor points", "wrote first + 1", "wrote", "wrote first"]
     text = bench.gdb(program, commands, "-n", "3")
     in_order(text, "bspgdb: monitor wrote: the line is\n", "nothing is neither an address nor a name of the program", "there is no rank 3: the ranks are 0 to 2")
-    in_order(text, *["the writers of 1 to 4096 bytes are told at once"] * 2, "0xfffffc to 0xffffff: never written: 0 from the start")
-    in_order(text, "there are no 4 bytes at 0xffffff: a rank's memory ends at 0x1000000", "0 first 4 4: give a rank, an address and a number", "as `monitor wrote 0 sum+4 8`")
-    in_order(text, "superstep 3 has not begun: the last one is superstep 0", "bspgdb: x is no number: give that of a superstep, as `monitor sent 1`")
-    in_order(text, "bspgdb: monitor call: the line is\n", "put is no call: the calls are bsp_abort, bsp_get, ", "bsp_sync is to no rank: leave out `to 2`")
-    in_order(text, "there is no rank 9", *["behind the name there are `to RANK` and `from RANK` alone"] * 2)
-    in_order(text, "x is no number: give that of a superstep, as `monitor superstep 1`", "there is no rank 3: the ranks are 0 to 2", "x is no rank: the ranks")
-    in_order(text, "monitor queue: the line is\nmonitor queue R ", "`to` stands there twice", "none\n")
+    in_order(text, *["give a number of bytes from 1 to 4096"] * 2, "0xfffffc to 0xffffff: never written: 0 from the start")
+    in_order(text, "there are no 4 bytes at 0xffffff: a rank's memory ends at 0x1000000", "0 first 4 4: give a rank, an address and a number", "as in `monitor wrote 0 sum+4 8`")
+    in_order(text, "superstep 3 has not begun: the latest is superstep 0", "bspgdb: x is not a number: give the number of a superstep, as in `monitor sent 1`")
+    in_order(text, "bspgdb: monitor call: the line is\n", "put is not a call: the calls are bsp_abort, bsp_get, ", "bsp_sync has no target rank: leave out `to 2`")
+    in_order(text, "there is no rank 9", *["only `to RANK` and `from RANK` can follow the name"] * 2)
+    in_order(text, "x is not a number: give the number of a superstep, as in `monitor superstep 1`", "there is no rank 3: the ranks are 0 to 2", "x is not a rank: the ranks")
+    in_order(text, "monitor queue: the line is\nmonitor queue R ", "`to` is given twice", "none\n")
     in_order(text, "none\n", *["bspgdb: wrote takes one expression, without blanks"] * 2, "never written")

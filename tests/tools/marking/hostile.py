@@ -149,6 +149,47 @@ def short(tally: Tally, folder: pathlib.Path) -> None:
         tally.expect(f"{shlex.join(words)} in a second", found == how, found)
 
 
+# Marks with little patience for what takes long beside a run.
+IMPATIENT = """
+import sys, time
+sys.path.insert(0, sys.argv[1])
+from bsptools import start
+from bsptools.marking import hand_in_trial
+kind = sys.argv[2]
+if kind != "is patient":
+    hand_in_trial.PATIENCE = 1
+if kind == "finds races slowly":
+    hand_in_trial.contested_bytes.in_run = lambda *_: time.sleep(99)
+sys.exit(start.process("bspcheck", sys.argv[3:]))
+"""
+# Loops where memory of malloc has other bytes, and ends where it is tried for that: there the compiler gets it by a whole path.
+FILLED = "#include <stdlib.h>\n#define FILLED (((volatile char *)malloc(4096))[99] != 0)\n"
+TAKES_LONG = PROGRAM % (FILLED, 'if (bsp_pid() == 0) puts("it");\nwhile (FILLED) bsp_sync();')
+DODGES = PROGRAM % (FILLED, "if (__FILE__[0] == '/') abort();\nint is_filled = FILLED;\nif (bsp_pid() == 0) puts(is_filled ? \"no\" : \"it\");")
+
+
+def unsearched(tally: Tally, folder: pathlib.Path) -> None:
+    """A hand-in is not right because a search took too long, or because it does not run where it is tried."""
+    bench = Bench(folder / "unsearched")
+    bench.write("secret.txt", "it\n")
+    bench.write("sheet.toml", SHEET.replace("seconds = 20", "seconds = 1\nportable = true"))
+    bench.write("races.toml", SHEET.replace("seconds = 20", "seconds = 1"))
+    bench.write("right.c", PROGRAM % ("", 'if (bsp_pid() == 0) puts("it");'))
+    bench.write("long.c", TAKES_LONG)
+    bench.write("dodges.c", DODGES)
+    for kind, sheet, name, status, wanted in (
+        ("finds races slowly", "races.toml", "right.c", NOT_MARKED, ("not judged", "the search for bytes that two requests write came to no end")),
+        ("is impatient", "sheet.toml", "long.c", NOT_MARKED, ("not judged", "the trial of what BSPlib leaves open came to no end in 3 s")),
+        ("is patient", "sheet.toml", "dodges.c", NOT_ALL_RIGHT, ("not portable", "it does not end well where it is compiled for this trial")),
+    ):
+        (bench.folder / "m.csv").unlink(missing_ok=True)
+        words = [sys.executable, "-I", "-B", "-c", IMPATIENT, str(REPO / "tools"), kind, "--jobs", "1", "-o", "m.csv", sheet, name]
+        done = subprocess.run(words, cwd=bench.folder, stdin=subprocess.DEVNULL, capture_output=True, text=True, timeout=SECONDS, check=False)
+        row = bench.rows("m.csv")[0] if (bench.folder / "m.csv").exists() else {"verdict": done.stderr, "fault": ""}
+        right = (done.returncode, row["verdict"]) == (status, wanted[0]) and wanted[1] in row["fault"]
+        tally.expect(f"{name} where bspcheck {kind}", right, (done.returncode, row, done.stderr))
+
+
 # Two programs of which one prints nothing, and one in C++.
 PRINTS, SILENT = PROGRAM % ("", 'if (bsp_pid() == 0) puts("it");'), PROGRAM % ("", "")
 CLASSES = "#include <vector>\n" + PROGRAM.replace("#include <bsp.h>", 'extern "C" {\n#include <bsp.h>\n}') % (
@@ -262,6 +303,7 @@ def parts(tally: Tally, folder: pathlib.Path) -> List[Part]:
         Part("hostile", lambda: tried(tally, folder), wanted),
         Part("compilers", lambda: compilers(tally, folder), wanted),
         Part("a host that is short of all", lambda: short(tally, folder), wanted),
+        Part("searches without an end", lambda: unsearched(tally, folder), wanted),
         Part("names of hand-ins", lambda: names(tally, folder), wanted),
         Part("links of hand-ins", lambda: links(tally, folder)),
     ]

@@ -111,10 +111,13 @@ def imported(check: Check) -> None:
     check.expect("one store and one record with bspsweep", same, done.stderr)
 
 
-# Runs what prints more than is taken; and then what does not end.
+# Runs what prints more than is taken; and then what does not end. It has more files open than select() takes numbers of.
 ENDLESS = """
-import bspemu
+import bspemu, os, resource
 from bspemu import _tools
+hard = resource.getrlimit(resource.RLIMIT_NOFILE)[1]
+resource.setrlimit(resource.RLIMIT_NOFILE, (min(hard, 4096), hard))
+held = [os.open(os.devnull, os.O_RDONLY) for _ in range(1100)]
 most, _tools.MOST_OUTPUT = _tools.MOST_OUTPUT, 99
 try:
     bspemu.run("prints.c")
@@ -146,7 +149,7 @@ def ends(check: Check) -> None:
 def checkout(check: Check) -> pathlib.Path:
     """A copy of what is tracked of the package and of what it stands on, in which building leaves files."""
     top = check.folder / "checkout"
-    wanted = ("tools/", "bsplib/", "prebuilt/", "scripts/toolchain", "LICENSE", "bsp")
+    wanted = ("tools/", "bsplib/", "prebuilt/", "web/", "scripts/toolchain", "LICENSE", "bsp")
     for name in tracked():
         if name.startswith(wanted):
             (top / name).parent.mkdir(parents=True, exist_ok=True)

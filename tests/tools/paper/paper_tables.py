@@ -82,7 +82,7 @@ def records(check: Check) -> None:
     check.expect("another source of the same program", right and (check.folder / "again.csv").read_text() == table, done.stderr)
     machines.write_text("mine-2 2 1e9 1 9 8 here\n")
     done = check.tool("bspsweep", "--again", "table.csv.json", "--engine", "plain")
-    right = done.returncode == 1 and "machines: own.txt: sha256 was " in done.stderr and "the table is another one" in done.stderr
+    right = done.returncode == 1 and "machines: own.txt: sha256 was " in done.stderr and "the table differs" in done.stderr
     check.expect("another machine", right and done.stdout != table, done.stderr)
     other = json.loads((check.folder / "table.csv.json").read_text())
     other["emulator"]["sha256"] = "0" * 64
@@ -126,12 +126,12 @@ def refusals(check: Check) -> None:
     for name, text in (("list.json", "[1]"), ("deep.json", "[" * 100_000), ("words.json", '{"made by": "x", "command": [1]}'), ("cut.json", "{")):
         (check.folder / name).write_text(text)
         done = check.tool("bspsweep", "--again", name)
-        right = done.returncode == 1 and f"{name} is no record of a table" in done.stderr
+        right = done.returncode == 1 and f"{name} is not the record of a table" in done.stderr
         check.expect(f"the record {name}", right, done.stderr)
     refused = {
         ("--again", "table.csv.json", "-n", "4"): "--again takes the sweep from table.csv.json, without -n 4",
         ("--again", "table.csv.json", "-o", "table.csv"): "table.csv.json would be overwritten",
-        ("-o", "taken.csv", PROGRAMS[0]): "taken.csv.json would have the record of the table, and is there as something else",
+        ("-o", "taken.csv", PROGRAMS[0]): "taken.csv.json is the name of the table's record, but something else has that name",
         (): "the following arguments are required: PROGRAM",
     }
     for words, line in refused.items():
@@ -141,7 +141,7 @@ def refusals(check: Check) -> None:
 
 
 def odd(check: Check) -> None:
-    """Names with blanks and of no UTF-8 come back from a record; what is no ordinary file has none."""
+    """Names with blanks and of no UTF-8 come back from a record; what is not a regular file has none."""
     name = os.fsdecode(b"a \xff name.s")
     (check.folder / name).write_bytes(pathlib.Path(PROGRAMS[0]).read_bytes())
     done = check.started("bspsweep", "--engine", "plain", "-n", "2", "-o", "odd table.csv", name)

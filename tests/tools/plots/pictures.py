@@ -367,7 +367,7 @@ def many(check: Check) -> None:
     (check.folder / "many.csv").write_text(head + "".join(rows))
     (check.folder / "few.csv").write_text(head + "".join(rows[:4]))
     words = ["sh", "-c", 'ulimit -t "$1"; shift; exec "$@"', "sh", "20", str(REPO / "bspplot"), "many.csv"]
-    told = {"--compare": "bspplot: the first 100 of 1000 lines are drawn: --curves with", "--table": "bspplot: these are 1000 lines, and a picture has at most 24"}
+    told = {"--compare": "bspplot: the first 100 of 1000 lines are drawn: --curves with", "--table": "bspplot: the picture would have 1000 lines; the limit is 24"}
     for option, line in told.items():
         done = subprocess.run([*words, option, f"made{option}.{'tex' if option == '--table' else 'svg'}"], capture_output=True, text=True, cwd=check.folder, check=False)
         check.expect(f"many programs {option}", done.stderr.startswith(line) and done.stderr.count("\n") == 1, done)
@@ -407,10 +407,10 @@ def refusals(check: Check) -> None:
     check.tool("bsprun", "-n", "4", "--report", "report.csv", str(REPO / "examples/c/lu.elf"))
     first_report(check)
     tried = {
-        ("--sweep", "t.svg", "many.csv"): f"bspplot: its runs make {MOST_POINTS + 1} lines, and a picture has at most {MOST_POINTS}",
+        ("--sweep", "t.svg", "many.csv"): f"bspplot: its runs make {MOST_POINTS + 1} lines; the limit of a picture is {MOST_POINTS}",
         ("--timeline", "t.svg", "cut.csv"): "bspplot: cut.csv: line 3: ",
         ("--timeline", "t.svg", "absent.csv"): "bspplot: absent.csv: No such file or directory",
-        ("--costs", "t.svg", "other.csv"): "bspplot: other.csv: this is no profile, no report, no costs of lines, and no table of a sweep",
+        ("--costs", "t.svg", "other.csv"): "bspplot: other.csv: this is not a profile, a report, costs of lines or the table of a sweep",
         ("--timeline", "t.svg", "report.csv"): "bspplot: report.csv has no profile",
         ("--sweep", "t.svg", "report.csv"): "bspplot: report.csv has no sweep",
         ("--lines", "t.svg", "report.csv"): "bspplot: report.csv has no costs of lines",
@@ -422,7 +422,7 @@ def refusals(check: Check) -> None:
         ("--supersteps", "x", "--costs", "t.svg", "report.csv"): "bspplot: argument --supersteps: 'x': give supersteps as",
         ("--h", "all", "--costs", "t.svg", "report.csv"): "bspplot: report.csv: a report has one h, and this one's is that of --h others",
         ("--costs", "t.svg", "first.txt"): "bspplot: first.txt: a report has one h, and this one's is that of --h all",
-        ("report.csv",): "bspplot: nothing is asked for",
+        ("report.csv",): "bspplot: no picture was asked for",
     }
     for (words, begin), (status, said) in zip(tried.items(), answers(check, list(tried))):
         right = status == 1 and said.startswith(begin) and said.count("\n") == 1

@@ -36,7 +36,7 @@ RUNS = {
 # What the states of ranks do not tell as the report does.
 OUTCOMES = {"bad_rank": "rank 0 stopped: faulted", "refused": "the exchange was refused"}
 DAMAGED: Dict[str, Tuple[Callable[[List[str]], List[str]], str]] = {
-    "no superstep": (lambda lines: lines[:1], "it has no superstep"),
+    "no superstep": (lambda lines: lines[:1], "it has no supersteps"),
     "another header": (lambda lines: ["superstep,rank,to", *lines[1:]], "line 1: a profile begins with the line"),
     "a rank left out": (lambda lines: lines[:1] + lines[2:], "line 2: rank 1 is not in its place"),
     "a superstep left out": (lambda lines: [it for it in lines if not it.startswith("1,")], "superstep 2 is not in its place"),
@@ -53,9 +53,9 @@ DAMAGED: Dict[str, Tuple[Callable[[List[str]], List[str]], str]] = {
     "a state that is none": (lambda lines: lines[:1] + [lines[1].replace("synced", "asleep")] + lines[2:], "line 2: 'asleep' is no state"),
     "a rank that ended early": (
         lambda lines: lines[:1] + [lines[1].replace("synced", "ended")] + lines[2:],
-        "it is ended, and a superstep follows",
+        "it is ended, but a superstep follows",
     ),
-    "bytes of no transfer": (lambda lines: lines[:5] + lines[6:], "superstep 1, rank 0: its bytes are not those of the transfers"),
+    "bytes of no transfer": (lambda lines: lines[:5] + lines[6:], "superstep 1, rank 0: its bytes differ from those of the transfers"),
     "a field without an end": (lambda lines: lines[:1] + ['"' + "x" * 200_000] + lines[1:], "line 2: a value is missing, or has another form"),
     "no number": (lambda lines: lines[:1] + [lines[1].replace("6", "six", 1)] + lines[2:], "line 2: 'six' is no whole number"),
 }
@@ -68,7 +68,7 @@ REPORTS: Dict[str, Tuple[str, str, str, str]] = {
     "a total of no prices": ("text", "total 24", "total 19", "the total 19 is not that of any prices"),
     "a total of 400 digits": ("text", "total 24", f"total {10**400}", "is no whole number"),
     "a w of 400 digits": ("text", "w 12", "w " + "1" * 400, "is no whole number"),
-    "a w of 5000 digits": ("text", "w 12", "w " + "1" * 5000, "this is no profile, no report"),
+    "a w of 5000 digits": ("text", "w 12", "w " + "1" * 5000, "this is not a profile, a report"),
     "a superstep left out": ("text", "superstep 1", "superstep 2", "superstep 2 is not in its place"),
     "an end too early": ("text", "0 turned\nsuperstep 1", "0 last\nsuperstep 1", "superstep 0 ends as 'last'"),
     "a negative h": ("csv", ",4,", ",-4,", "'-4' is no whole number"),
@@ -77,8 +77,8 @@ REPORTS: Dict[str, Tuple[str, str, str, str]] = {
     "infinite work": ("json", '"w": 12', '"w": Infinity', "'inf' is no whole number"),
     "no number": ("json", '"w": 12', '"w": NaN', "'nan' is no whole number"),
     "a number that is too great": ("json", '"w": 12', '"w": 1e400', "'inf' is no whole number"),
-    "no list": ("json", '"supersteps": [', '"supersteps": 7, "others": [', "goes on as none"),
-    "deep nesting": ("json", '"supersteps": [', '"supersteps": ' + "[" * 100_000, "goes on as none"),
+    "no list": ("json", '"supersteps": [', '"supersteps": 7, "others": [', "like a report, but is not"),
+    "deep nesting": ("json", '"supersteps": [', '"supersteps": ' + "[" * 100_000, "like a report, but is not"),
     "an outcome that is none": ("json", '"outcome": "ended"', '"outcome": "well"', "'well' is no outcome"),
 }
 TABLES: Dict[str, Tuple[str, str, str]] = {

@@ -202,7 +202,7 @@ def by_engine(
     path = check.folder / f"{folder}.csv"
     right = done.returncode == 0 and path.exists() and path.read_text() == text
     if "--check" in words:
-        right = right and f"{6 if points is TWELVE else 2} runs gave the same once more" in done.stderr
+        right = right and f"{6 if points is TWELVE else 2} runs gave the same again" in done.stderr
     check.expect(f"a sweep by {name}", right, done.stderr)
 
 
@@ -290,7 +290,7 @@ def becomes_true(question: Callable[[], bool]) -> None:
 def differing(check: Check) -> None:
     """A record that is not what the run gives is named."""
     done = check.tool("bspsweep", "--engine", "plain", "--folder", "plain", "--check", "--nodes", "2", *PROGRAMS)
-    check.expect("a check where all is well", done.returncode == 0 and "2 runs gave the same once more" in done.stderr, done.stderr)
+    check.expect("a check where all is well", done.returncode == 0 and "2 runs gave the same again" in done.stderr, done.stderr)
     for path in (check.folder / "plain/runs").glob("*/run.json"):
         place = Place(path.parent)
         record = place.found()
@@ -302,7 +302,7 @@ def differing(check: Check) -> None:
         words = ["-o", target] * bool(target)
         done = check.tool("bspsweep", "--engine", "plain", "--folder", "plain", "--check", "--nodes", "2", *words, *PROGRAMS)
         right = done.returncode == 1 and done.stderr.count("another result") == 2 and not done.stdout
-        check.expect(f"a check that finds two {target}", right and done.stderr.endswith("no table is written\n"), done.stderr)
+        check.expect(f"a check that finds two {target}", right and done.stderr.endswith("no table was written\n"), done.stderr)
     right = not (check.folder / "new.csv").exists() and (check.folder / "old.csv").read_text() == "old\n"
     check.expect("no table of a check that fails", right, "there is one")
 
@@ -437,7 +437,7 @@ def others(check: Check) -> None:
     kept = check.folder / "kept"
     for name in ("", "runs", next((kept / "runs").iterdir()).name):
         place = kept / "runs" / name if len(name) > 4 else kept / name
-        for told in ("; if all in it is yours, say chmod -R go-w there", *["it belongs to another user"] * (os.geteuid() == 0)):
+        for told in ("if everything in it is yours, or give", *["it belongs to another user"] * (os.geteuid() == 0)):
             if told.startswith("it"):
                 os.chown(place, 65534, 65534)
             else:
@@ -445,11 +445,11 @@ def others(check: Check) -> None:
             done = check.tool("bspsweep", *words)
             place.chmod(0o755)
             os.chown(place, os.geteuid(), -1)
-            right = done.returncode == 1 and f"no results can be kept in {place}: " in done.stderr and f"{told}; --folder names" in done.stderr
+            right = done.returncode == 1 and f"no results can be saved in {place}: " in done.stderr and told in done.stderr and "another folder by --folder" in done.stderr
             check.expect(f"{place.name} of others: {told}", right and (len(name) > 4) == bool(done.stdout), done.stderr)
     (check.folder / ".bspsweep").symlink_to("kept")
     done = check.tool("bspsweep", "--engine", "plain", *TWO)
-    check.expect("results that are a link", done.returncode == 1 and ".bspsweep: it is a link; --folder names" in done.stderr, done.stderr)
+    check.expect("results that are a link", done.returncode == 1 and ".bspsweep: it is a link. Give another folder by --folder" in done.stderr, done.stderr)
 
 
 def hostile(check: Check) -> None:
@@ -523,7 +523,7 @@ def refusals(check: Check) -> None:
         ("--define", "N", PROGRAMS[0]): "bspsweep: argument --define: 'N': give a constant as",
         ("--define", "N=1", PROGRAMS[0]): f"bspsweep: {PROGRAMS[0]} is compiled already: --define is for programs in C",
         ("--args", "'", PROGRAMS[0]): "bspsweep: argument --args: \"'\": No closing quotation",
-        ("--nodes", "1:1000", "--g", "1:1000", PROGRAMS[0]): "bspsweep: these are 1000000 points, and a sweep has 100000 at most",
+        ("--nodes", "1:1000", "--g", "1:1000", PROGRAMS[0]): "bspsweep: the sweep has 1000000 points; the limit is 100000",
         ("--make", PROGRAMS[0]): "bspsweep: unrecognized arguments: --make",
         ("--make", "absent", "run"): "bspsweep: absent/job.json: No such file or directory",
         ("absent.s",): "bspsweep: absent.s: No such file or directory",

@@ -66,7 +66,7 @@ def checked(options: argparse.Namespace) -> int:
     """Does what the command line asks for."""
     sheet = sheet_reader.read(options.sheet)
     if not options.files and not options.freeze and not options.costs:
-        raise Refused("no hand-in is named: give the files to mark, or --costs, or --freeze")
+        raise Refused("no hand-in was given: give the files to mark, or --costs or --freeze")
     outputs = [options.output, options.html, options.junit, options.freeze]
     files.expect_apart(outputs, [options.sheet, *options.files, *(it for it in sources(sheet) if it != sheet.file(sheet.wanted or "."))])
     files.expect_writable(outputs)
@@ -91,10 +91,10 @@ def expect_judged(sheet: Sheet, found: list[Marks]) -> None:
     """Refuses to say that all is done where a hand-in was not judged, and says what to do."""
     untried = [it for it in found if it.evidence.untried]
     if untried:
-        raise Refused(f"{named_first(untried)} could not be tried, and was not judged: {untried[0].evidence.untried}", "mark again when that is mended")
+        raise Refused(f"{named_first(untried)} could not be tried, so it was not judged: {untried[0].evidence.untried}", "mark again after fixing that")
     unjudged = [it for it in found if any(check.verdict == UNJUDGED for check in it.checks)]
     if unjudged:
-        raise Refused(f"{sheet.checker} did not judge {named_first(unjudged)}: mend the checker, which has to judge any output, and mark again")
+        raise Refused(f"{sheet.checker} did not judge {named_first(unjudged)}: fix the checker, which has to judge any output, and mark again")
 
 
 def named_first(found: list[Marks]) -> str:
@@ -103,14 +103,16 @@ def named_first(found: list[Marks]) -> str:
 
 
 def advice(marking: Marking, found: list[Marks]) -> list[str]:
-    """How the usual mistakes are looked for in a single hand-in whose output is wrong."""
+    """How the usual mistakes are looked for in a single hand-in whose output is wrong, and how its run is watched."""
     wrong = [it.run for it in found[0].checks if it.verdict == WRONG and it.run >= 0] if len(found) == 1 else []
     if not wrong:
         return []
     # On an odd number of nodes blocks are seldom whole words by chance, so that an index in the place of an offset shows.
     nodes = {it: marking.sheet.runs[it].nodes for it in wrong}
     number = next((it for it in wrong if nodes[it] > 1 and nodes[it] % 2), wrong[0])
-    return [f"  to look for the usual mistakes: {printable(marking.again(found[0].name, number, is_strict=True))}"]
+    name = found[0].name
+    mistakes, page = marking.again(name, number, "--strict"), marking.again(name, number, "--page", "run.html")
+    return [f"  to look for the usual mistakes: {printable(mistakes)}", f"  to watch the run in a page: {printable(page)}"]
 
 
 def write(options: argparse.Namespace, marking: Marking, found: list[Marks]) -> None:

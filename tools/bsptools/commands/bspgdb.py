@@ -62,8 +62,8 @@ def arguments(words: Sequence[str]) -> argparse.Namespace:
     asked.check = asked.check or asked.strict
     asked.gdb_options = list(words[end + 1 :])
     if asked.dialogue and (asked.server or asked.stdio or asked.tcp is not None or asked.gdb_options):
-        raise Refused("--dialogue is without gdb: leave out --server, --tcp, --stdio and what stands behind --")
-    tell([f"bspgdb: {it} behind PROGRAM is an argument of the program" for it in parser.own(list(words[:end]), asked.args)])
+        raise Refused("--dialogue does not use gdb: leave out --server, --tcp, --stdio and everything after --")
+    tell([f"bspgdb: {it} after PROGRAM is an argument of the program" for it in parser.own(list(words[:end]), asked.args)])
     return asked
 
 

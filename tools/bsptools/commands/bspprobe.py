@@ -61,9 +61,9 @@ def main(words: list[str]) -> int:
     """Measures, and tells what was found."""
     options = parser().parse_args(words)
     if options.samples and (options.program or options.mpi or options.nodes):
-        raise Refused("--samples takes what was measured before: leave out --program, --mpi and -n")
+        raise Refused("--samples reads earlier measurements: leave out --program, --mpi and -n")
     if options.program and options.mpi:
-        raise Refused("--program says itself how it is started: leave out --mpi")
+        raise Refused("--program is a complete command: leave out --mpi")
     files.expect_apart([options.output], options.samples)
     files.expect_writable([options.output])
     python_packages.expect(python_packages.NUMPY)
@@ -74,7 +74,7 @@ def main(words: list[str]) -> int:
     fits = [in_unit(fit(it, options.lowest), factor) for it in found]
     unit = "instructions" if options.instructions else "operations"
     tell(explained(it, unit) for it in fits)
-    tell(f"bspprobe: p = {it.p}: these times do not tell g, whose interval begins below 0: {QUIET}" for it in fits if it.g.low <= 0)
+    tell(f"bspprobe: p = {it.p}: these times do not determine g, whose interval begins below 0: {QUIET}" for it in fits if it.g.low <= 0)
     lines = [machine_lines.of(options.name or machine_lines.host(), it, f"{how}, {'lowest times, ' * options.lowest}{unit}") for it in fits]
     if options.output:
         machine_lines.add(options.output, lines)
@@ -102,7 +102,7 @@ def expect_different(found: list[Samples]) -> None:
     numbers = [it.p for it in found]
     twice = [it for it in numbers if numbers.count(it) > 1]
     if twice:
-        raise Refused(f"there are several runs on {twice[0]} processes: give one of them")
+        raise Refused(f"there are several runs on {twice[0]} processes: give only one")
     over = [it for it in numbers if it > limits.MOST_NODES]
     if over:
         raise Refused(f"a machine of {over[0]} processes has more than the {limits.MOST_NODES} nodes of the emulator")
@@ -114,7 +114,7 @@ def measured(options: argparse.Namespace) -> tuple[list[Samples], str]:
     numbers, load = options.nodes or usual_numbers(), os.getloadavg()[0]
     is_busy = load > BUSY * processors() and not options.program
     if is_busy:
-        tell([f"bspprobe: others use this host: its load is {load:.1f}, on {counted(processors(), 'processor')}; {QUIET}"])
+        tell([f"bspprobe: other programs use this host: its load is {load:.1f}, on {counted(processors(), 'processor')}; {QUIET}"])
     with children.folder("bspprobe") as folder:
         if options.program:
             words, how = probing.command(options.program), shlex.quote(options.program)
@@ -145,7 +145,7 @@ def usual_numbers() -> list[int]:
 def warn_of_few_processors(p: int, is_elsewhere: bool) -> None:
     """Says where processes wait for one another's processors."""
     if p > processors() and not is_elsewhere:
-        tell([f"bspprobe: {p} processes share {processors()} processors here: g and l have the time in it for which they wait for one another"])
+        tell([f"bspprobe: {p} processes share {processors()} processors here: g and l include the time that they wait for each other"])
 
 
 def explained(found: Fit, unit: str) -> str:

@@ -164,7 +164,7 @@ class Sweep:
                 said = progress.follow(engine.words(self.commands(folder, wanted, copy)))
         self.take_tickets()
         if progress.left:
-            tell([f"not made: {counted(len(progress.left), 'run')}; the engine says", *said.strip().splitlines()[-5:]], "bspsweep: ")
+            tell([f"not run: {counted(len(progress.left), 'run')}; the engine says", *said.strip().splitlines()[-5:]], "bspsweep: ")
 
     def take_tickets(self) -> None:
         """Takes away what would seal another result of a run that is made: the folder may be given to others."""
@@ -245,7 +245,7 @@ def sweep(options: argparse.Namespace, words: list[str], before: table_record.Re
     stopped = result_table.stopped(whole.places)
     tell([*whole.unplaced, *result_table.failures(whole.places), *stopped, *wrong], "bspsweep: ")
     if options.check:
-        tell([f"{counted(len(whole.places), 'run')} gave the same once more" if is_whole else "no table is written"], "bspsweep: ")
+        tell([f"{counted(len(whole.places), 'run')} gave the same again" if is_whole else "no table was written"], "bspsweep: ")
     return REFUSED if not is_whole or not is_same else NOT_ENDED if stopped else 0
 
 
@@ -261,7 +261,7 @@ def tell_again(before: table_record.Record, now: table_record.Record) -> bool:
     """Says what is not as in an older record, and whether the table is the same, which is answered."""
     lines = table_record.differences(before, now)
     is_same = bool(before.get(table_record.TABLE) == now[table_record.TABLE])
-    tell([*lines, "the table is the same, byte for byte" if is_same else "the table is another one"], "bspsweep: ")
+    tell([*lines, "the table is the same, byte for byte" if is_same else "the table differs"], "bspsweep: ")
     return is_same
 
 
@@ -273,7 +273,7 @@ def again(asked: argparse.Namespace) -> int:
     words = before[table_record.COMMAND]
     options = arguments(words)
     if options.again is not None:
-        raise Refused(f"{asked.again} is the record of no sweep")
+        raise Refused(f"{asked.again} is not the record of a sweep")
     files.expect_ordinary([*options.program, *(options.input or []), *options.file], asked.again)
     for name in ("output", "folder", "engine", "jobs", "hosts", "sbatch", "check", "script"):
         setattr(options, name, getattr(asked, name))
@@ -296,7 +296,7 @@ def main(words: list[str]) -> int:
         return sweep_job.make(words[1], words[2])
     options = arguments(words)
     if not files.is_here():
-        raise Refused(f"{files.GONE}, from which runs are described: start it elsewhere")
+        raise Refused(f"{files.GONE}, and the descriptions of runs name it: start bspsweep in another folder")
     if options.again is not None:
         return again(options)
     expect_outputs(options, [])

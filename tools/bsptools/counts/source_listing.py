@@ -154,7 +154,7 @@ def parse(text: str) -> Listing:
     try:
         return checked(of_json(json.loads(text)))
     except (ValueError, KeyError, TypeError, AttributeError, IndexError, RecursionError) as error:
-        raise Refused(f"it begins as costs of lines, and goes on as none: {why_unfit(error)}") from error
+        raise Refused(f"it begins like costs of lines, but is not: {why_unfit(error)}") from error
 
 
 def of_json(content: Mapping[str, Any]) -> Listing:

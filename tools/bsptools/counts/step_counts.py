@@ -84,7 +84,7 @@ def parts(path: str | os.PathLike[str]) -> Iterator[Part]:
     """The parts of a file of counts, in the order of superstep and rank; what is none raises ValueError."""
     with about(path), open(path, encoding="ascii", errors="replace", newline="") as file:
         if os.fstat(file.fileno()).st_size > MOST_BYTES:
-            raise Refused(f"the counts have more than {MOST_BYTES} bytes: take fewer nodes, or fewer supersteps")
+            raise Refused(f"the counts exceed {MOST_BYTES} bytes: use fewer nodes or fewer supersteps")
         rows = csv.reader(file)
         try:
             if next(rows, []) != HEADER:

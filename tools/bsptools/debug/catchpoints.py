@@ -42,24 +42,24 @@ def awaited(names: Names, words: Sequence[str], ranks: int) -> Awaited:
     """What the words say behind `monitor call`: a name, and then ranks behind `to` and `from`."""
     name, rest = words[0], list(words[1:])
     if name not in NUMBERS:
-        raise Refused(f"{printable(name)} is no call: the calls are {', '.join(sorted(NUMBERS))}")
+        raise Refused(f"{printable(name)} is not a call: the calls are {', '.join(sorted(NUMBERS))}")
     number = NUMBERS[name]
     found: Dict[str, Optional[int]] = {"to": None, "from": None}
     while rest:
         which, value = rest[0], rest[1] if len(rest) > 1 else ""
         if which not in found or not value.isascii() or not value.isdigit():
-            raise Refused(f"{printable(' '.join(words))}: behind the name there are `to RANK` and `from RANK` alone")
+            raise Refused(f"{printable(' '.join(words))}: only `to RANK` and `from RANK` can follow the name")
         if int(value) >= ranks:
             raise Refused(f"there is no rank {int(value)}: the ranks are 0 to {ranks - 1}")
         if found[which] is not None:
-            raise Refused(f"{printable(' '.join(words))}: `{which}` stands there twice: stop at one rank, and type another line for the other")
+            raise Refused(f"{printable(' '.join(words))}: `{which}` is given twice: stop at one rank, and give another line for the other")
         found[which] = int(value)
         rest = rest[2:]
     if found["to"] is not None and number not in REQUESTS:
-        raise Refused(f"{name} is to no rank: leave out `to {found['to']}`")
+        raise Refused(f"{name} has no target rank: leave out `to {found['to']}`")
     places = sites(names.code, [number])
     if not places:
-        raise Refused(f"the program nowhere calls {name}")
+        raise Refused(f"no instruction of the program calls {name}")
     return Awaited(name, number, found["to"], found["from"], frozenset(places))
 
 

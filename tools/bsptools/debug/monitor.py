@@ -124,7 +124,7 @@ class Monitor:
         if call not in self._runner.calls:
             size = len({*self._runner.breakpoints, *addresses_of([*self._runner.calls, call])})
             if size > MOST_BREAKPOINTS:
-                raise Refused(f"these are {size} addresses with the breakpoints, and {MOST_BREAKPOINTS} are the most")
+                raise Refused(f"with the breakpoints, these are {size} addresses; the limit is {MOST_BREAKPOINTS}")
             self._runner.calls.append(call)
         return [f"continue stops before each {call}, and so does reverse-continue"]
 
@@ -143,22 +143,22 @@ def asked_bytes(names: Names, operands: Sequence[str], ranks: int, current: int)
     _expect_rank(rank, ranks)
     count = BYTES if len(words) == 1 else names.address(words[1]) if len(words) == 2 and not names.is_name(words[1]) else None
     if count is None:
-        raise Refused(f"{printable(' '.join(operands))}: give a rank, an address and a number of bytes, as `monitor wrote 0 sum+4 8`")
+        raise Refused(f"{printable(' '.join(operands))}: give a rank, an address and a number of bytes, as in `monitor wrote 0 sum+4 8`")
     addr = names.address(words[0])
     if addr is None:
-        raise Refused(f"{printable(words[0])} is neither an address nor a name of the program: `info variables` and `print &x` tell more")
+        raise Refused(f"{printable(words[0])} is neither an address nor a name of the program: `info variables` and `print &x` show more")
     return rank, addr, count
 
 
 def _superstep(name: str, word: str) -> int:
     if not _NUMBER.fullmatch(word):
-        raise Refused(f"{printable(word)} is no number: give that of a superstep, as `monitor {name} 1`")
+        raise Refused(f"{printable(word)} is not a number: give the number of a superstep, as in `monitor {name} 1`")
     return int(word)
 
 
 def _rank(word: str, ranks: int) -> int:
     if not _NUMBER.fullmatch(word):
-        raise Refused(f"{printable(word)} is no rank: the ranks are 0 to {ranks - 1}")
+        raise Refused(f"{printable(word)} is not a rank: the ranks are 0 to {ranks - 1}")
     _expect_rank(int(word), ranks)
     return int(word)
 

@@ -208,13 +208,13 @@ class Dialogue:
         node = self._node(rank)
         known = {**dict(zip(REGISTERS, node.x)), "fp": node.x[8], "pc": node.pc, **{f"x{at}": value for at, value in enumerate(node.x)}}
         if found[1] not in known:
-            raise Refused(f"${printable(found[1])} is no register: they are $pc, $zero, $ra, $sp and so on, as regs shows them, or $x0 to $x31")
+            raise Refused(f"${printable(found[1])} is not a register: registers are $pc, $zero, $ra, $sp and so on, as regs shows them, or $x0 to $x31")
         return (known[found[1]] + int(found[2] or "0", 0)) % (1 << 32)
 
     def _named(self, text: str) -> int:
         address = self.names.address(text)
         if address is None and _NUMBER.fullmatch(text):
-            raise Refused(f"{text} is too great: addresses are below {1 << 32:#x}")
+            raise Refused(f"{text} is too large: addresses are below {1 << 32:#x}")
         if address is None:
             nameless = "" if self.names.all() else ", which has none"
             raise Refused(f"{printable(text)} is neither an address nor a name of the program{nameless}")
@@ -236,7 +236,7 @@ class Dialogue:
         known = dict(zip(("fcsr", *FLOATS), rows))
         known.update((f"f{at}", known[it]) for at, it in enumerate(FLOATS))
         if name and name not in known:
-            raise Refused(f"{printable(name)} is no register: they are fcsr, ft0, fa0, fs0 and so on, as fregs shows them, or f0 to f31")
+            raise Refused(f"{printable(name)} is not a register: registers are fcsr, ft0, fa0, fs0 and so on, as fregs shows them, or f0 to f31")
         yield from [known[name]] if name else rows
 
     def _memory(self, rank: int, addr: int, count: int) -> bytes:

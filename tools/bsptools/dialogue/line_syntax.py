@@ -218,12 +218,12 @@ def _value(name: str, word: str, rank: int, ranks: int, address: Reader) -> int:
     if name == "ADDR":
         return address(word, rank)
     if not _NUMBER.fullmatch(word):
-        raise Refused(f"{printable(word)} is no rank: {ranks_of(ranks)}" if name == "RANK" else f"{printable(word)} is no number")
+        raise Refused(f"{printable(word)} is not a rank: {ranks_of(ranks)}" if name == "RANK" else f"{printable(word)} is not a number")
     value = int(word, 16 if word[1:2] in ("x", "X") else 10)
     if name == "RANK" and value >= ranks:
         raise NoRank(f"there is no rank {value}: {ranks_of(ranks)}")
     if value > MOST:
-        raise Refused(f"{word} is too great: {MOST} is the most")
+        raise Refused(f"{word} is too large: the limit is {MOST}")
     return value
 
 

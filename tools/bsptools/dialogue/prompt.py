@@ -95,7 +95,7 @@ def talk(command: Sequence[str]) -> None:
         if editor is not None:
             complete(editor, dialogue.completing)
         if is_terminal:
-            tell(["the lines of the debugger; help tells which, and Ctrl-D ends it"], "bspgdb: ")
+            tell(["type the debugger's lines; help lists them, and Ctrl-D ends the session"], "bspgdb: ")
         while True:
             line = interrupts.typed()
             if line is None or not dialogue.answer(line):

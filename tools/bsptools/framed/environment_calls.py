@@ -2,6 +2,7 @@
 
 from __future__ import annotations
 
+from collections.abc import Iterable
 from typing import NamedTuple
 
 from ..program.code import Code
@@ -125,13 +126,13 @@ class Tracer:
         """The calls of these numbers that a rank made from the beginning of a superstep to the run's end."""
         return self._made(self.replays.begin(superstep), rank, numbers)
 
-    def calls_in(self, rank: int, numbers: tuple[int, ...], superstep: int) -> list[Call]:
-        """Those that it made in one superstep."""
-        made = self._made([*self.replays.begin_for(rank, superstep), f"break superstep {superstep + 1}"], rank, numbers)
+    def calls_in(self, rank: int, numbers: tuple[int, ...], superstep: int, beside: Iterable[int] = ()) -> list[Call]:
+        """Those that it made in one superstep, from where the library makes them and from other addresses beside."""
+        made = self._made([*self.replays.begin_for(rank, superstep), f"break superstep {superstep + 1}"], rank, numbers, beside)
         return [it._replace(superstep=superstep) for it in made]
 
-    def _made(self, script: list[str], rank: int, numbers: tuple[int, ...]) -> list[Call]:
-        stops = self.replays.stops(script, rank, self.sites(numbers))
+    def _made(self, script: list[str], rank: int, numbers: tuple[int, ...], beside: Iterable[int] = ()) -> list[Call]:
+        stops = self.replays.stops(script, rank, list(dict.fromkeys([*self.sites(numbers), *beside])))
         return [Call(node, i + 1) for i, node in enumerate(stops) if node.x[17] in numbers]
 
     def areas(self, rank: int, superstep: int) -> Areas:

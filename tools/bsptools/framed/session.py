@@ -126,7 +126,7 @@ def floats_of(reply: Sequence[str]) -> Floats:
     """What a reply to `fregs` shows."""
     head = _FCSR.fullmatch(reply[0]) if len(reply) == 9 else None
     if head is None:
-        raise Refused("the debugger shows no registers of floating point")
+        raise Refused("the debugger shows no floating-point registers")
     return Floats(int(head[1], 16), tuple(int(value, 16) for line in reply[1:] for value in _FLOAT.findall(line)))
 
 
@@ -263,7 +263,7 @@ class Session:
         for line in self.ask("help").accepted():
             fields = line.split("\t")
             if len(fields) != len(LineForm._fields):
-                raise Refused(f"the debugger is of another version than this tool: its help has the row {printable(line)}")
+                raise Refused(f"the debugger has another version than this tool: its help has the row {printable(line)}")
             forms.append(LineForm(*fields))
         return forms
 

@@ -35,7 +35,7 @@ def folder_at(path: str) -> pathlib.Path:
     except OSError as error:
         why = "it is not a folder" if folder.exists() and not folder.is_dir() else error.strerror
     if why:
-        raise Refused(f"no results can be kept in {folder}: {why}; --folder names another place")
+        raise Refused(f"no results can be saved in {folder}: {why}. Give another folder by --folder")
     return folder.resolve()
 
 

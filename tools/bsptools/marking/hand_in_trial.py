@@ -41,8 +41,9 @@ COMPILER_SECONDS, MOST_COMPILED, MOST_LATE = 30, 1 << 20, 2
 MOST_ENDS, MOST_PLACES = 500, 4
 # Of a report behind the output.
 MOST_REPORT = 1 << 26
-# For how long it is looked why a run did not end well, or what it costs by line.
-PATIENCE = 20
+# For how long it is looked why a run did not end well, or what it costs by line. What is judged has longer, also where a sheet gives runs much
+# time: so many times as long, and so many times the seconds of a run.
+PATIENCE, TIMES_AS_LONG, TIMES_A_RUN = 20, 3, 2
 # What is likely a mistake by the text alone. `bspcc --strict` also takes -Og and tests as the program runs, with which w would be another.
 STRICT = ("-Wall", "-Wextra", "-Wno-unused-parameter", "-Wno-sign-compare")
 ERRORS = re.compile(r"\b(?:fatal )?[eE]rror: |undefined reference")
@@ -58,6 +59,7 @@ SCARCE = re.compile(r"(?:File size|CPU time) limit exceeded|out of memory alloca
 NO_MEMORY = 5
 LACKS = (errno.ENOSPC, errno.EDQUOT, errno.ENOMEM, errno.EAGAIN, errno.EMFILE, errno.ENFILE)
 SLOW = "the compiler took too long"
+UNTRIED = "not portable: it does not end well where it is compiled for this trial, with the same constants, input and arguments"
 SAFE = re.compile(r"[A-Za-z_][\w.-]{0,80}\.(?:c|cc|cpp|cxx)", re.ASCII)
 COMMENTS = re.compile(r"//[^\n]*|/\*.*?\*/|\"(?:\\.|[^\"\\\n])*\"|'(?:\\.|[^'\\\n])*'", re.DOTALL)
 
@@ -268,14 +270,28 @@ class Trial:
             return Why(job.code, job.replays(), job.options.nodes, job.options.limit).lines(report)
         return []
 
+    @property
+    def patience(self) -> int:
+        """For how many seconds it is looked for something that a hand-in is judged by."""
+        return max(TIMES_AS_LONG * PATIENCE, TIMES_A_RUN * self.plan.seconds)
+
+    def lacks(self, search: str) -> None:
+        """Takes note that a search came to no end: a hand-in is not right for want of it."""
+        self.found.lack = f"{search} came to no end in {self.patience} s, or in the memory that there is; more seconds in the sheet give it longer"
+
     def race(self, job: Job, report: Report) -> List[str]:
         """What two requests of a superstep bring to the same bytes, if they do."""
-        with patient():
+        found = None
+        with patient(self.patience):
             found = contested_bytes.in_run(job.program, job.settings, job.options.nodes, report.supersteps[-1].number, self.folder)
-            if found.first is not None:
-                job.code.know_names()
-                return told_contested(Tracer(job.code, job.replays()), found.first, found.places - 1)
-        return []
+        if found is None:
+            self.lacks("the search for bytes that two requests write")
+        if found is None or found.first is None:
+            return []
+        with patient():
+            job.code.know_names()
+            return told_contested(Tracer(job.code, job.replays()), found.first, found.places - 1)
+        return [f"superstep {found.first.superstep}, rank {found.first.rank}: two requests write other bytes to one place"]
 
     def exceeded(self, run: RunPlan, ended: Ended) -> List[str]:
         """The costs of bounds that are not kept."""
@@ -311,13 +327,14 @@ class Trial:
         """What other choices of a library bring, in the first case, on most nodes."""
         first = [it for it in self.plan.runs if it.defines == self.plan.runs[0].defines]
         run = max(first, key=lambda it: it.nodes)
-        with patient(PATIENCE * 3):
+        self.found.portable, self.found.is_portable = [], False
+        with patient(self.patience):
             job = self.job(run, pathlib.Path(self.name), "portable")
             found = verdict(job, self.folder / "portable")
-            self.found.portable = [it.replace("bsprun: ", "", 1) for it in found.lines()] if found else []
-            self.found.is_portable = found is None or not found.found
+            self.found.portable = [it.replace("bsprun: ", "", 1) for it in found.lines()] if found else [UNTRIED]
+            self.found.is_portable = found is not None and not found.found
             return
-        self.found.portable = [f"nothing came of it in {PATIENCE * 3} s"]
+        self.lacks("the trial of what BSPlib leaves open")
 
 
 def last_name(path: str) -> str:

@@ -23,7 +23,7 @@ def words_of(path: str) -> List[str]:
     if path.endswith(".py"):
         return [sys.executable, path]
     if not os.access(path, os.X_OK):
-        raise Refused(f"{path} is no program that can be started: chmod +x it, or give it the name of a text of Python, as make.py")
+        raise Refused(f"{path} cannot be started: make it executable with chmod +x, or give it the name of a Python script, such as make.py")
     return [path]
 
 

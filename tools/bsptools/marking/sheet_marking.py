@@ -68,7 +68,7 @@ def hand_ins(paths: Sequence[str]) -> List[HandIn]:
 
 
 def hand_in(path: str, below: int = 0) -> HandIn:
-    """A hand-in of a file. What is no ordinary file is none: a link may lead to the solution. So may the last of its folders, of which so many
+    """A hand-in of a file. What is not a regular file is none: a link may lead to the solution. So may the last of its folders, of which so many
     are no links."""
     *folders, name = pathlib.PurePath(path).parts or (os.curdir,)
     first = max(len(folders) - below, 0)
@@ -89,7 +89,7 @@ def _hand_in(path: str, name: str, place: int) -> HandIn:
     if stat.S_ISLNK(found.st_mode):
         return HandIn(path, why=f"the file is a link, to {os.readlink(name, dir_fd=place)}, and not looked into")
     if not stat.S_ISREG(found.st_mode):
-        return HandIn(path, why="this is no ordinary file")
+        return HandIn(path, why="this is not a regular file")
     if pathlib.PurePath(path).suffix not in SOURCES:
         return HandIn(path, why=f"a hand-in is a program in C or C++, whose name ends with {', '.join(SOURCES)}")
     if found.st_size > MOST_TEXT:
@@ -166,7 +166,7 @@ class Marking:
             plan = replace(self.plan, portable=False, calls=(), races=False)
             evidence = self.evidence([solution], plan)[0]
             if faults := faults_of_solution(evidence, sheet):
-                raise Refused(*(f"{sheet.solution}, the solution, is none{f' on {run}' if run else ''}: {why}" for run, why in faults.items()))
+                raise Refused(*(f"{sheet.solution}, the solution, does not pass{f' on {run}' if run else ''}: {why}" for run, why in faults.items()))
             self.wanted = wanted_of(evidence)
         elif sheet.wanted:
             self.wanted = wanted_file.read(sheet, sheet.runs, self.plan.runs)
@@ -290,7 +290,7 @@ class Marking:
                 done = children.call(words, stdout=subprocess.PIPE, stderr=subprocess.STDOUT, env=compiler_environment(self.folder))
                 said = done.stdout.decode(errors="replace")
                 if done.returncode != 0:
-                    raise Refused("bspcc compiles nothing here", *[it for it in said.splitlines() if ERRORS.search(it) or it.startswith("bspcc: ")][:5])
+                    raise Refused("bspcc cannot compile anything here", *[it for it in said.splitlines() if ERRORS.search(it) or it.startswith("bspcc: ")][:5])
                 self.compiler += [it for it in compiler_files.files_of(said, self.path) if not it.startswith(OF_SYSTEM)]
         if not python_packages.borrow(python_packages.ELFTOOLS):
             import elftools.dwarf.callframe
@@ -345,11 +345,12 @@ class Marking:
 
     # What a person repeats.
 
-    def again(self, name: str, number: int, is_strict: bool = False) -> str:
-        """The command that makes a run of a hand-in again, with its costs, or else to look for the usual mistakes."""
+    def again(self, name: str, number: int, *options: str) -> str:
+        """The command that makes a run of a hand-in again, with its costs, or with other options of bsprun: to look for the usual mistakes,
+        or to watch the run in a page."""
         sheet, run, given = self.sheet, self.sheet.runs[number], self.input_file(number)
         costs = ["--report", "-", "--g", str(run.case.g), "--l", str(run.case.l)]
-        words = [tool("bsprun"), "-n", str(run.nodes), *(["--strict"] if is_strict else costs)]
+        words = [tool("bsprun"), "-n", str(run.nodes), *(options or costs)]
         words += ["--memory", str(sheet.memory)] if sheet.memory != MEMORY else []
         words += [f"-D{it}={value}" for it, value in self.plan.runs[number].defines]
         words += ["--input", given] if given else []
@@ -366,7 +367,7 @@ class Marking:
         folder = self.kept / "inputs"
         with about(folder):
             if why := own_folders.make(folder):
-                raise Refused(f"no input can be kept in {folder}: {why}")
+                raise Refused(f"no input can be saved in {folder}: {why}")
         path = folder / f"{digest(content)[:16]}.txt"
         # Another start may have left a part of it, or another person something else.
         put(path, content)

@@ -36,7 +36,7 @@ def toml() -> Any:
     with contextlib.suppress(ImportError):
         return importlib.import_module("tomllib")
     if missing := python_packages.borrow(python_packages.TOMLI):
-        raise Refused(f"a sheet is TOML, which Python reads from 3.11 on: {missing}")
+        raise Refused(f"a sheet is TOML, which needs Python 3.11 or later: {missing}")
     return importlib.import_module("tomli")
 
 
@@ -45,7 +45,7 @@ def read(path: str) -> Sheet:
     try:
         text = content_of(path, MOST_BYTES).decode()
     except UnicodeDecodeError as error:
-        raise Refused(f"{path}: byte {error.start} is not UTF-8, as a sheet is") from error
+        raise Refused(f"{path}: byte {error.start} is not UTF-8, and a sheet has to be") from error
     reader = toml()
     try:
         content: Dict[str, Any] = reader.loads(text)
@@ -54,7 +54,7 @@ def read(path: str) -> Sheet:
         line, column = (found[2], found[3]) if found else end_of(text)
         raise Refused(f"{path}:{line}:{column}: {found[1] if found else error}") from error
     except RecursionError as error:
-        raise Refused(f"{path}: values are in one another too deep") from error
+        raise Refused(f"{path}: its values are nested too deeply") from error
     return Reader(path, content, Places(text.replace("\r\n", "\n"))).sheet()
 
 

@@ -47,7 +47,7 @@ def read(sheet: Sheet, runs: Sequence[Run], plans: Sequence[RunPlan]) -> List[Wa
         if not lacks:
             return [wanted_of(it) for it in found]
     except (ValueError, TypeError, KeyError, AttributeError, RecursionError) as error:
-        raise Refused(f"{path} is not what bspcheck --freeze writes: {why_unfit(error)}") from error
+        raise Refused(f"{path} was not written by bspcheck --freeze: {why_unfit(error)}") from error
     raise Refused(
-        f"{path} has nothing for {lacks[0]}: it was made for another sheet or seed; bspcheck --freeze writes it anew, with the solution"
+        f"{path} has nothing for {lacks[0]}: it was made for another sheet or seed. Run bspcheck --freeze with the solution again"
     )

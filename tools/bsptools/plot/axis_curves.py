@@ -37,7 +37,7 @@ def scales(panels: list[Panel], y: str, asked: str | None) -> str:
         return "".join(name for name in "xy" if found[name])
     for name, values in (("x", xs), ("y", ys)):
         if name in asked and min(values) <= 0:
-            raise Refused(f"--log {asked}: 0 is along {name}, which has no place on a logarithmic axis: leave {name} out, or 0 by --only")
+            raise Refused(f"--log {asked}: {name} has the value 0, which a logarithmic axis cannot show: leave {name} out, or leave 0 out by --only")
     return "" if asked == "none" else asked
 
 

@@ -51,7 +51,7 @@ def maps(rows: list[Row], asked: Asked, window: Window) -> list[Map]:
     by = list(asked.by) if asked.by is not None else [it for it in differing if it not in panels]
     if asked.by is None and len(by) > 1:
         # Of two sizes of a problem the smaller one always costs less, which is no answer.
-        raise Refused(f"the runs differ in {' and '.join(by)}, and a map compares what does the same work: give --by {by[0]} --panels"
+        raise Refused(f"the runs differ in {' and '.join(by)}, but a map compares what does the same work: give --by {by[0]} --panels"
                       f" {','.join(by[1:])}, or --by {','.join(by)} if all of them do")  # fmt: skip
     left = [it for it in differing if it not in panels and it not in by]
     if left:
@@ -60,10 +60,10 @@ def maps(rows: list[Row], asked: Asked, window: Window) -> list[Map]:
     for row in frame.rows:
         groups.setdefault(tuple(frame.cell(row, name) for name in panels), []).append(row)
     if len(groups) > MOST_PANELS:
-        raise Refused(f"these are {len(groups)} maps, and a picture has at most {MOST_PANELS}: choose some by --only NAME=VALUE,..")
+        raise Refused(f"the picture would have {len(groups)} maps; the limit is {MOST_PANELS}: choose some by --only NAME=VALUE,..")
     found = [one_map(frame, key, panels, by, them, window) for key, them in groups.items()]
     if all(len(it.regions) < 2 for it in found) and len({tuple(frame.cell(row, it) for it in by) for row in frame.rows}) < 2:
-        raise Refused("the table has one program alone: a map compares several programs, or several values of a setting")
+        raise Refused("the table has only one program: a map compares several programs, or several values of a setting")
     return found
 
 
@@ -116,7 +116,7 @@ def expected(window: Window, log: str | None) -> str:
     chosen = "xy" if log is None else "" if log == "none" else log
     for name, least in (("x", window.g[0]), ("y", window.l[0])):
         if name in chosen and least == 0:
-            raise Refused(f"0 has no place on a logarithmic axis: begin --{'g' if name == 'x' else 'l'}-range above it, or give --log none")
+            raise Refused(f"a logarithmic axis cannot show 0: begin --{'g' if name == 'x' else 'l'}-range above it, or give --log none")
     return chosen
 
 

@@ -192,7 +192,7 @@ def draw(options: argparse.Namespace) -> None:
     papers = [name for name in PAPERS if getattr(options, name)]
     if not wanted and not papers and not options.page and not options.html:
         all_names = ", ".join(f"--{name}" for name in ("timeline", "matrix", "costs", "lines", "source", "sweep", "compare", *PAPERS))
-        raise Refused(f"nothing is asked for: give {all_names} or --html")
+        raise Refused(f"no picture was asked for: give {all_names} or --html")
     for name, make in wanted.items():
         made = make()
         made.origin = plan.origin(name)

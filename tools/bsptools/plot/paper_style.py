@@ -43,7 +43,7 @@ def styled(style: Style) -> Iterator[None]:
         try:
             font_manager.findfont(style.font, fallback_to_default=False)
         except ValueError as error:
-            raise Refused(f"no font {style.font!r} is found here; {', '.join(GENERIC)} always are") from error
+            raise Refused(f"there is no font {style.font!r} here; {', '.join(GENERIC)} are always there") from error
     with matplotlib.rc_context({**settings, **({"font.family": [style.font]} if style.font else {})}):
         yield
 

@@ -62,7 +62,7 @@ def understood(name: str, content: bytes, reading: profile.Reading) -> Source:
         return Source(name, rows=sweep_table.parse(text))
     known = report_formats.read(content)
     if known is None:
-        raise Refused("this is no profile, no report, no costs of lines, and no table of a sweep")
+        raise Refused("this is not a profile, a report, costs of lines or the table of a sweep")
     expect_reading(reading, reading_of(known), "a report has")
     return Source(name, superstep_costs.of_report(known), outcome=known.outcome)
 

@@ -127,7 +127,7 @@ def parse(text: str) -> Profile:
     except (ValueError, IndexError, csv.Error) as error:
         raise Refused(f"line {rows.line_num}: {why_unfit(error)}") from error
     if not supersteps:
-        raise Refused("it has no superstep")
+        raise Refused("it has no supersteps")
     if len(supersteps[-1].shares) != len(supersteps[0].shares):
         raise Refused(f"it is cut off in superstep {supersteps[-1].number}")
     for superstep in supersteps:
@@ -183,8 +183,8 @@ def expect_sums(superstep: Superstep, is_last: bool) -> None:
     for rank, it in enumerate(superstep.shares):
         begin = f"superstep {superstep.number}, rank {rank}"
         if [it.sent, it.received, it.kept] != sums[rank]:
-            raise Refused(f"{begin}: its bytes are not those of the transfers")
+            raise Refused(f"{begin}: its bytes differ from those of the transfers")
         if not is_last and it.state != "synced":
-            raise Refused(f"{begin}: it is {it.state}, and a superstep follows")
+            raise Refused(f"{begin}: it is {it.state}, but a superstep follows")
         if is_last and (any(sums[rank]) or it.messages):
-            raise Refused(f"{begin}: it is the last superstep, in which no exchange is made")
+            raise Refused(f"{begin}: it is the last superstep, which has no exchange")

@@ -82,7 +82,7 @@ class Frame:
     def expect_column(self, name: str) -> None:
         """Refuses a column that the table does not have."""
         if name in MEASURED:
-            raise Refused(f"{name} is what runs cost, and no setting: it can be along --y alone; --x, --by, --panels and --only take"
+            raise Refused(f"{name} is what runs cost, and not a setting: only --y can show it; --x, --by, --panels and --only take"
                           f" {', '.join(self.columns)}")  # fmt: skip
         if name not in self.columns:
             raise Refused(f"the table has no column {name}: it has {', '.join(self.columns)}")
@@ -113,7 +113,7 @@ class Frame:
         found = number(cell)
         if found is None:
             own = f"the prices of {row.machine} are its own on each number of nodes" if row.machine and self.axes.x in PRICES else ""
-            raise Refused(f"--x {self.axes.x}: {own or f'{cell!r} is no number'}; {self.fitting()}")
+            raise Refused(f"--x {self.axes.x}: {own or f'{cell!r} is not a number'}; {self.fitting()}")
         return found
 
     def fitting(self) -> str:
@@ -124,10 +124,10 @@ class Frame:
     def expect_several(self) -> None:
         """Refuses an axis with one place, on which all points would stand one above the other."""
         if self.axes.x in (*self.axes.panels, *(self.axes.by or ())):
-            raise Refused(f"{self.axes.x} is along the axis, and so parts neither lines nor panels: leave it out of --by and --panels")
+            raise Refused(f"{self.axes.x} is on the axis, so it separates neither lines nor panels: leave it out of --by and --panels")
         places = {self.x_of(it) for it in self.rows}
         if len(places) < 2:
-            raise Refused(f"all runs have {self.axes.x} {spelled(places.pop())}, and a line needs several; {self.fitting()}")
+            raise Refused(f"all runs have {self.axes.x} {spelled(places.pop())}, but a line needs several; {self.fitting()}")
 
     @functools.cached_property
     def parting(self) -> list[str]:
@@ -145,7 +145,7 @@ class Frame:
         for row in self.rows:
             groups.setdefault(tuple(self.panel(row, name) for name in self.axes.panels), []).append(row)
         if len(groups) > MOST_PANELS:
-            raise Refused(f"these are {len(groups)} panels, and a picture has at most {MOST_PANELS}: choose some by --only NAME=VALUE,..")
+            raise Refused(f"the picture would have {len(groups)} panels; the limit is {MOST_PANELS}: choose some by --only NAME=VALUE,..")
         titles = [", ".join(f"{name} {it}" if name not in (PROGRAM, MACHINE) else it for name, it in zip(self.axes.panels, key)) for key in groups]
         names = self.names()
         return [Panel(title, self.curves(rows, names)) for title, rows in zip(titles, groups.values())]
@@ -158,7 +158,7 @@ class Frame:
         """A name for each line, the same in all panels."""
         keys = list(dict.fromkeys(map(self.key, self.rows)))
         if len(keys) > MOST_LINES:
-            raise Refused(f"these are {len(keys)} lines, and a picture has at most {MOST_LINES}: choose some by --only NAME=VALUE,.., or part"
+            raise Refused(f"the picture would have {len(keys)} lines; the limit is {MOST_LINES}: choose some by --only NAME=VALUE,.., or separate"
                           " them by --panels NAME")  # fmt: skip
         plain = (PROGRAM, MACHINE)
         parts = [[("" if name in plain else name, it) for name, it in zip(self.parting, key) if it] or [("", self.axes.y)] for key in keys]

@@ -138,7 +138,7 @@ def lines(rows: list[Row]) -> list[Line]:
     if not found:
         raise Refused("no run in it ended")
     if len(found) > MOST_POINTS:
-        raise Refused(f"its runs make {len(found)} lines, and a picture has at most {MOST_POINTS}: draw a part of the table")
+        raise Refused(f"its runs make {len(found)} lines; the limit of a picture is {MOST_POINTS}: draw a part of the table")
     return [Line(it.program, it.settings, it.prices, dict(sorted(it.totals.items()))) for it in found.values()]
 
 

@@ -62,11 +62,11 @@ def files_of(folder: str) -> list[str]:
     with about(folder), os.scandir(folder) as entries:
         names = sorted(it.path for it in entries if it.is_file())
     if len(names) > MOST_FILES:
-        raise Refused(f"{folder} has {len(names)} files, and {MOST_FILES} are the most that --files gives: give those that are read by --file")
+        raise Refused(f"{folder} has {len(names)} files, and --files gives {MOST_FILES} at most: give those that the program reads by --file")
     return names
 
 
 def outputs_of(options: argparse.Namespace) -> list[str]:
     """The files that bsprun itself writes by these options. A program is not to forge them."""
-    found = [options.report, options.profile, options.accept_all, *(path for _, path in options.lines_as)]
+    found = [options.report, options.profile, options.page, options.accept_all, *(path for _, path in options.lines_as)]
     return [it for it in found if it is not None and it != "-"]

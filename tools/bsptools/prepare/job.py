@@ -168,7 +168,7 @@ def expect_choices(name: str, content: bytes) -> None:
     from .library_choices import MAGIC as CHOICES
 
     if CHOICES not in content:
-        raise Refused(f"{name} takes no choices, as --portable and --order make: give a program in C, or what bspcc --portable built")
+        raise Refused(f"{name} cannot take the choices of --portable and --order: give a program in C, or what bspcc --portable built")
 
 
 def given_input(options: argparse.Namespace, content: bytes, tool: str) -> bytes | None:
@@ -182,7 +182,7 @@ def with_block(options: argparse.Namespace, content: bytes, given: bytes | None)
     """An input, with arguments and files in front of it where there are any."""
     if options.args or options.file or options.files or options.found:
         if MAGIC not in content:
-            raise Refused(f"{options.program} takes neither arguments nor files: it was not built by this bspcc")
+            raise Refused(f"{options.program} takes no arguments and no files: it was not built by this bspcc")
         words = [os.fsencode(word) for word in [options.argv0 or options.program, *options.args]]
         given = block(words, given_files(options)) + (given or b"")
     expect_fits(len(given or b""), limits.of(options.large).given)
@@ -198,7 +198,7 @@ def standard_input(name: str, content: bytes, most: int) -> bytes | None:
     if not reads & names and (names or is_typed):
         return None
     if is_typed:
-        tell([f"bsprun: {name} reads its input: type it, and then Ctrl-D at the beginning of a line"])
+        tell([f"bsprun: {name} reads its input: type it, and then press Ctrl-D at the start of a line"])
     return sys.stdin.buffer.read(most + 1)
 
 

@@ -84,7 +84,7 @@ class Choices(NamedTuple):
 def image_with(content: bytes, choices: Choices) -> bytes:
     """A program's image with these choices."""
     if content.count(MAGIC) != 1:
-        raise Refused("the program has no one place for choices: it was not built by bspcc --portable")
+        raise Refused("the program has no place for choices: it was not built by bspcc --portable")
     cuts = sorted(choices.cuts)[:MOST_CUTS]
     *plain, until, _, _ = choices
     content = with_words(content, MAGIC, [*plain, *until, len(cuts), *(number for it in cuts for number in it)])

@@ -28,7 +28,7 @@ def fit(samples: Samples, is_lowest: bool = False) -> Fit:
     rates, times = numpy.array(samples.rates), numpy.array(samples.times)
     first = min(samples.p, times.shape[1] - LEAST_POINTS)
     if first < 0:
-        raise Refused(f"times of h from 0 to {times.shape[1] - 1} are too few for a line: give a greater --most")
+        raise Refused(f"times of h from 0 to {times.shape[1] - 1} are too few to fit a line: give a larger --most")
     whole = _parameters(rates[None], times[None], first, is_lowest)[0]
     drawn = numpy.random.default_rng(SEED).integers(0, len(rates), (DRAWINGS, len(rates)))
     at_once = max(1, MOST_AT_ONCE // times.size)

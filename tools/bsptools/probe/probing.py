@@ -42,7 +42,7 @@ def called(words: Sequence[str], p: int) -> bytes:
             assert child.stdout is not None
             printed = child.stdout.read(samples.MOST_PRINTED + 1)
             if len(printed) > samples.MOST_PRINTED:
-                raise Refused(f"{shlex.join(words)} printed more than {samples.MOST_PRINTED} bytes on {p} processes, which are no samples")
+                raise Refused(f"{shlex.join(words)} printed more than {samples.MOST_PRINTED} bytes on {p} processes, which is too much for samples")
             status = child.wait()
     except OSError as error:
         raise Refused(f"{words[0]}: {error.strerror}") from error
@@ -61,7 +61,7 @@ def compiled(folder: pathlib.Path, is_mpi: bool) -> str:
     environment = {**os.environ, "TMPDIR": str(folder)}
     done = children.call(words, stdout=subprocess.PIPE, stderr=subprocess.STDOUT, env=environment)
     if done.returncode != 0:
-        raise Refused("the program that measures was not compiled", *lines_of(done.stdout))
+        raise Refused("the measuring program was not compiled", *lines_of(done.stdout))
     return path
 
 
@@ -88,7 +88,7 @@ def measured(words: Sequence[str], setting: Setting, p: int) -> Samples:
     placed = [it.replace(P, str(p)) for it in words]
     found = samples.read(called([*placed, *setting.words()], p), placed[0])[-1]
     if found.p != p:
-        raise Refused(f"{shlex.join(placed)} ran on {found.p} processes and not on {p}: write {P} where its command has their number")
+        raise Refused(f"{shlex.join(placed)} ran on {found.p} processes and not on {p}: write {P} in place of their number in the command")
     return found
 
 
@@ -100,5 +100,5 @@ def instructions_of_operation() -> float:
         stdout=subprocess.PIPE, stderr=subprocess.PIPE,
     )  # fmt: skip
     if done.returncode != 0:
-        raise Refused("bsprun did not run the program that measures on the emulator's nodes", *lines_of(done.stderr))
+        raise Refused("bsprun could not run the measuring program on the emulator's nodes", *lines_of(done.stderr))
     return second / samples.read(done.stdout, "bsprun")[-1].rates[0]

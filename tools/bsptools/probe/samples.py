@@ -32,13 +32,13 @@ def read(content: bytes, name: str) -> list[Samples]:
     lines = content.decode(errors="replace").splitlines()
     starts = [number for number, line in enumerate(lines) if line.strip() == FIRST]
     if not starts:
-        raise Refused(f"{name}: this is nothing that a program of bsplib/native/probe.c has printed: it has no line {FIRST!r}")
+        raise Refused(f"{name}: this was not printed by a program of bsplib/native/probe.c: it has no line {FIRST!r}")
     found = []
     for start, end in zip(starts, [*starts[1:], len(lines)]):
         try:
             found.append(_one(lines[start + 1 : end]))
         except (Unread, ValueError, IndexError) as error:
-            raise Refused(f"{name}: the run of line {start + 1} is not whole: {error}; run the program again") from error
+            raise Refused(f"{name}: the run of line {start + 1} is incomplete: {error}. Run the program again") from error
     return found
 
 

@@ -39,8 +39,8 @@ def kind_of(path: pathlib.Path, content: bytes) -> str:
     if path.suffix.lower() in kinds:
         return kinds[path.suffix.lower()]
     if content.startswith(b"#!") or b"\0" not in content[:4096]:
-        raise Refused(f"{path} looks like a text: say --format c or --format asm, or give it a name that ends with .c or .s")
-    raise Refused(f"{path} is no ELF file: say --format raw if it is an image of memory from address 0 on")
+        raise Refused(f"{path} looks like text: use --format c or --format asm, or give it a name that ends in .c or .s")
+    raise Refused(f"{path} is not an ELF file: use --format raw if it is an image of memory from address 0 on")
 
 
 class Statement(NamedTuple):

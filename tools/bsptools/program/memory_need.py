@@ -39,9 +39,9 @@ def expect_room(code: Code, options: argparse.Namespace) -> None:
     arrays = f"; the largest are {named}" if named else ""
     if need > MOST_MEMORY:
         text = f"and a node has {MOST_MEMORY} at most{arrays}: give each rank its part of them, or make them smaller"
-        raise Refused(f"{options.program} wants {need} bytes of memory for its code and variables, {text}")
+        raise Refused(f"{options.program} needs {need} bytes of memory for its code and variables, {text}")
     if need > options.memory:
-        raise Refused(f"{options.program} wants {need} bytes of memory for its code and variables{arrays}: give --memory {need} or more")
+        raise Refused(f"{options.program} needs {need} bytes of memory for its code and variables{arrays}: give --memory {need} or more")
     if options.stack and not options.sources and code.know_names().names.get("__stack_top", 0) != options.stack:
         has = code.names.get("__stack_top")
         known = f", with {has} bytes" if has else ""

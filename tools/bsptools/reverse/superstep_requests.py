@@ -39,7 +39,7 @@ def sites(code: Code, numbers: Iterable[int]) -> List[int]:
     others = {name for names in FUNCTIONS.values() for name in names} - wanted
     found = [site for site in code.calls() if code.name_at(site) not in others]
     if len(found) > MOST_BREAKPOINTS:
-        raise Refused(f"the program makes calls from {len(found)} places, and {MOST_BREAKPOINTS} are the most that are looked at")
+        raise Refused(f"the program makes calls from {len(found)} places; the limit is {MOST_BREAKPOINTS}")
     return found
 
 

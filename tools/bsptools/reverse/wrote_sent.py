@@ -41,7 +41,7 @@ class PastTeller:
         has started the server, and no packet comes in the way of an answer."""
         if not self._is_told and (time.process_time() > self._until[0] or time.monotonic() > self._until[1]):
             self._is_told = True
-            tell([f"what was before is made once more, which takes a while{self._way_off}"], "bspgdb: ")
+            tell([f"the earlier state is computed again, which takes a while{self._way_off}"], "bspgdb: ")
         return self._is_to_be_broken_off()
 
     # Who has written this?
@@ -70,7 +70,7 @@ class PastTeller:
     def _expect(self, addr: int, count: int) -> None:
         end = self._machine.size
         if not 0 < count <= MOST_BYTES:
-            raise Refused(f"the writers of 1 to {MOST_BYTES} bytes are told at once")
+            raise Refused(f"give a number of bytes from 1 to {MOST_BYTES}")
         if addr + count > end:
             raise Refused(f"there are no {counted(count, 'byte')} at {addr:#x}: a rank's memory ends at {end:#x}")
 
@@ -125,7 +125,7 @@ class PastTeller:
     def sent(self, superstep: int, rank: Optional[int] = None) -> List[str]:
         """A line for each request of a superstep: of all ranks for the first ones, or of one rank for all of its own."""
         if superstep > self._place.superstep:
-            raise Refused(f"superstep {superstep} has not begun: the last one is superstep {self._place.superstep}")
+            raise Refused(f"superstep {superstep} has not begun: the latest is superstep {self._place.superstep}")
         made = Requests(self._machine, self._names, self._place, self._must_break_off).of(superstep)
         if rank is not None:
             made = [it for it in made if it.rank == rank]

@@ -59,7 +59,7 @@ def tell_of(job: Job, found: Report, parser: Parser, is_chosen: bool, are_offset
         tell(warnings(Tracer(job.code, job.replays()), options.nodes, found, others, are_offsets_told, options.strict, options.is_warned))
     missing = python_packages.missing(python_packages.ELFTOOLS)
     if job.code.debug and missing:
-        tell([f"bsprun: functions and lines are not named: {missing}"])
+        tell([f"bsprun: no names of functions and lines: {missing}"])
 
 
 def tell_summary(job: Job, found: Report) -> None:
@@ -73,14 +73,14 @@ def tell_summary(job: Job, found: Report) -> None:
             printed = printing(work.work)
     if printed is None and options.apart:
         why = "the run is too long to count it" if steps > MOST_COUNTED else "the program has no output functions"
-        tell([f"bsprun: printing is not apart: {why}"])
+        tell([f"bsprun: printing is not shown apart: {why}"])
     if options.summary:
         tell(run_summary.lines(job, found, printed))
     if printed is not None and options.profile is not None and is_own_file(options.profile):
         profile = files.content_of(options.profile, MOST_TABLE).decode()
         files.write(options.profile, without_printing(profile, printed) if options.apart else with_printing(profile, printed))
     elif printed is not None and options.profile is not None and options.apart:
-        tell([f"bsprun: the profile has printing too, since {options.profile} cannot be read again: give --profile the name of a file"])
+        tell([f"bsprun: the profile includes printing, because {options.profile} cannot be read again: give --profile a file"])
 
 
 def is_own_file(path: str) -> bool:
@@ -126,7 +126,7 @@ def measured(job: Job, found: Report) -> Iterator[Measured]:
         counts = folder / "counts"
         done = emulator.run([*job.program, "run", *job.settings, "--report", "--counts", str(counts)])
         if done.returncode == NOT_WRITTEN or not counts.exists():
-            raise Refused("the costs of lines are not known, since their counts could not be made", *lines_of(done.stderr))
+            raise Refused("the costs of lines are unknown: their counts could not be made", *lines_of(done.stderr))
         yield Measured(counts, options.nodes, Tracer(job.code, job.replays()), found, (options.g, options.l), options.program)
 
 

@@ -62,7 +62,7 @@ def used_of(job: Job, room: int) -> int | None:
         words = build_of(job, room, image)
         done = children.call(words, stdout=subprocess.DEVNULL, stderr=subprocess.DEVNULL) if words else None
         if done is None or done.returncode != 0:
-            raise Refused("the program cannot be built again")
+            raise Refused("the program could not be built again")
         flags = output_records.WRITES_FILES | output_records.FILLED
         image.write_bytes(output_records.settings_in(content_of(image, MOST_PROGRAM), flags, FILL, b""))
         replays = Replays([*job.program, "debug", str(image), *job.settings[1:]], job.options.memory, job.options.nodes)

@@ -307,7 +307,7 @@ class Watch:
             if not self.is_prepared:
                 self._prepare()
             for name in self.outputs.finder.missing:
-                tell([f"bsprun: the program looks for {name}, which is not here: --file PATH gives a file from elsewhere"])
+                tell([f"bsprun: the program looks for {name}, which is not here: give a file from elsewhere by --file PATH"])
             self.outputs.finder.missing.clear()
 
     def _prepare(self) -> None:

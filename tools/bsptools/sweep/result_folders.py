@@ -11,15 +11,13 @@ from .. import own_folders
 from ..files import absolute
 from ..refusals import Refused
 
-OTHER = "; --folder names another place"
-
 
 class Unkept(Refused):
     """No results can be kept in a folder."""
 
     def __init__(self, folder: pathlib.Path, why: str | None) -> None:
-        mend = "; if all in it is yours, say chmod -R go-w there" if why == own_folders.OTHERS_MAY_WRITE else ""
-        super().__init__(f"no results can be kept in {folder}: {why}{mend}{OTHER}")
+        give = "Run chmod -R go-w on it if everything in it is yours, or give" if why == own_folders.OTHERS_MAY_WRITE else "Give"
+        super().__init__(f"no results can be saved in {folder}: {why}. {give} another folder by --folder")
 
 
 def expect_own(folder: pathlib.Path, why: str) -> None:

@@ -56,7 +56,7 @@ def described(place: Place) -> dict[str, Any]:
             return job
     except (ValueError, AttributeError, RecursionError):
         pass
-    raise Refused(f"{place.job} describes no run: begin the sweep once more")
+    raise Refused(f"{place.job} does not describe a run: start the sweep again")
 
 
 def changed(job: dict[str, Any]) -> str:

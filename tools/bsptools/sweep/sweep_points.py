@@ -90,7 +90,7 @@ def expect_few(options: argparse.Namespace) -> None:
     for it in lists:
         count *= len(it)
     if count > MOST_POINTS:
-        raise Refused(f"these are {count} points, and a sweep has {MOST_POINTS} at most")
+        raise Refused(f"the sweep has {count} points; the limit is {MOST_POINTS}")
 
 
 def points(options: argparse.Namespace, programs: list[Program]) -> list[Point]:

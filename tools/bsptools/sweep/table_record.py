@@ -31,7 +31,7 @@ ASIDE = {"-o": 1, "--output": 1, "--folder": 1, "--engine": 1, "--jobs": 1, "--h
 
 
 def beside(output: str | None) -> str | None:
-    """The file for the record of a table that is written to this one; None if that is no ordinary file."""
+    """The file for the record of a table that is written to this one; None if that is not a regular file."""
     if output is None or os.path.abspath(output).startswith(DEVICES):
         return None
     return f"{output}.json" if os.path.isfile(output) or not os.path.exists(output) else None
@@ -40,7 +40,7 @@ def beside(output: str | None) -> str | None:
 def expect_own(path: str | None) -> None:
     """Refuses to write a record over a file that is none."""
     if path is not None and os.path.lexists(path) and MADE_BY not in (_parsed(path) or {}):
-        raise Refused(f"{path} would have the record of the table, and is there as something else: move it, or give another -o")
+        raise Refused(f"{path} is the name of the table's record, but something else has that name: move it, or give another -o")
 
 
 def _parsed(path: str) -> Record | None:
@@ -57,7 +57,7 @@ def read(path: str) -> Record:
     found = _parsed(path)
     words = (found or {}).get(COMMAND)
     if found is None or MADE_BY not in found or not isinstance(words, list) or not all(isinstance(it, str) and "\0" not in it for it in words):
-        raise Refused(f"{path} is no record of a table, as bspsweep -o FILE writes it into FILE.json")
+        raise Refused(f"{path} is not the record of a table, which bspsweep -o FILE writes into FILE.json")
     return found
 
 

@@ -260,7 +260,7 @@ class Longs:
         os.mkfifo(self.folder / "pipe.c")
         (self.folder / "evil.elf").write_bytes(content.replace(b"main.c\0", b"pipe.c\0"))
         done = self.run("evil.elf")
-        self.tally.expect("a pipe for a source", done.returncode == 0 and "/pipe.c is no ordinary file): build it again\n" in done.stderr, done)
+        self.tally.expect("a pipe for a source", done.returncode == 0 and "/pipe.c is not a regular file): build it again\n" in done.stderr, done)
 
     def unknown(self) -> None:
         """What cannot be looked at has a line that says why, but for a program that has no names either."""
@@ -366,7 +366,7 @@ class Longs:
     def fewer(self) -> None:
         """Where the program takes fewer nodes the run beside has these."""
         done = self.run("-n", "4", self.write("two.c", CUBES.replace("bsp_begin(bsp_nprocs())", "bsp_begin(2)")))
-        right = done.returncode == 0 and "has these, and not 4" in done.stderr and f"{FITS}: {ADVICE}, and so 1 more rank\n" in done.stderr
+        right = done.returncode == 0 and "gets these and not 4" in done.stderr and f"{FITS}: {ADVICE}, and so 1 more rank\n" in done.stderr
         self.tally.expect("fewer nodes", right, done)
 
     def bounded(self) -> None:

@@ -247,7 +247,7 @@ class Telling:
         done = self.run("--out", "p", "over.elf", "c", "e/../c")
         self.expect("one file by two names", done, 1, "c was not written: rank 0 wrote e/../c, which is the same file")
         self.expect("a folder that is a file", self.run("--out", "p", "over.elf", "c/x"), 1, "p/c/x: Not a directory (c/x was not written)")
-        self.expect("a folder that is a link", self.run("--out", "linked", "over.elf", "a/x"), 1, "linked/a: it is a link, which is not followed (a/x was")
+        self.expect("a folder that is a link", self.run("--out", "linked", "over.elf", "a/x"), 1, "linked/a: it is a symbolic link, which is not followed (a/x was")
         self.tally.expect("nothing behind a link", not list((self.folder / "theirs").iterdir()), "there is something")
         (self.folder / "same.c").write_text('#include <stdio.h>\nint main(void) { return fputs("x", fopen("more.c", "w")) < 0; }\n')
         done = self.run("--out", ".", "same.c", "more.c")
@@ -269,9 +269,9 @@ class Telling:
         done = self.run("-n", "3", "keep.elf")
         self.expect("files are here", done, 0, "wrote log.txt, deep/new0.txt, deep/new1.txt, deep/new2.txt\n")
         self.tally.expect("output before and behind a file", done.stdout == "".join(f"rank {s} began\nrank {s} read {s}\n" for s in range(3)), done)
-        again = [line for line in done.stderr.splitlines() if "it is run again" in line]
-        wanted = ["bsprun: the program reads in/part0.txt and 2 more files: it is run again with that, as with --file",
-            "bsprun: the program reads log.txt: it is run again with that, as with --file"]  # fmt: skip
+        again = [line for line in done.stderr.splitlines() if "it runs again" in line]
+        wanted = ["bsprun: the program reads in/part0.txt and 2 more files: it runs again with these files, as with --file",
+            "bsprun: the program reads log.txt: it runs again with that file, as with --file"]  # fmt: skip
         self.tally.expect("what it is run again for", again == wanted, done)
         found = {str(it.relative_to(self.folder)): it.read_text() for it in (self.folder / "deep").iterdir()}
         self.tally.expect("folders of files are kept", found == {f"deep/new{s}.txt": f"{s}\n" for s in range(3)}, found)
@@ -283,7 +283,7 @@ class Telling:
         after = {it: it.read_bytes() for it in self.folder.rglob("*") if it.is_file()}
         self.expect("nothing without files", done, 3, "in/part0.txt was to be read: it is in this folder, give --file")
         self.tally.expect("nothing changes without files", before == after and "again" not in done.stderr, done)
-        self.expect("both options", self.run("--no-files", "--out", "x", "keep.elf"), 1, "leave one of the two out")
+        self.expect("both options", self.run("--no-files", "--out", "x", "keep.elf"), 1, "leave out one of the two")
         self.spelled()
 
     def spelled(self) -> None:

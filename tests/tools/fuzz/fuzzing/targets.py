@@ -21,7 +21,7 @@ from bsptools.commands import bspgdb as _debug  # noqa: F401  pylint: disable=un
 from bsptools.commands import bsprun as _run  # noqa: F401  pylint: disable=unused-import
 from bsptools.commands import bspsweep as _sweep  # noqa: F401  pylint: disable=unused-import
 from bsptools.counts import step_counts
-from bsptools.outputs import contested_bytes, report_formats
+from bsptools.outputs import contested_bytes, exposed_ranges, report_formats
 from bsptools.plot import plot_inputs, profile, sweep_table
 from bsptools.plot.superstep_costs import Prices, total
 from bsptools.program.code import read_elf, source_lines
@@ -62,6 +62,7 @@ class Bases:
     listings: List[bytes]
     counts: bytes
     contested: bytes
+    exposed: bytes
     image: bytes
     records: List[bytes]
     key: str
@@ -95,6 +96,11 @@ class Trial:
         """What is contested in a run, which is told as that of a run of two nodes and three supersteps alone."""
         (self.folder / "contested").write_bytes(mutated(self.bases.contested, self.chance))
         return quietly(lambda: contested_bytes.read(self.folder / "contested", 2, 2))
+
+    def read_exposed(self) -> str:
+        """What is exposed in a run, told in the same way."""
+        (self.folder / "exposed").write_bytes(mutated(self.bases.exposed, self.chance))
+        return quietly(lambda: exposed_ranges.read(self.folder / "exposed", 2, 2))
 
     def read_record(self) -> str:
         """What a sweep keeps: a changed record counts as not made."""

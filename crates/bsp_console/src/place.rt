@@ -1,4 +1,4 @@
-//! Where the nodes of a machine are.
+//! Where the nodes of a machine have stopped.
 
 ghost use Rattle.std.specs.Prelude.{◌≡◌, ◌++◌, map, IfOk, string_bytes};
 ghost use Rattle.std.specs.List.{flat_map};

@@ -36,7 +36,7 @@ impl<A: Allocator + Copy> Trace<A> {
         Ok(moved)
     }
 
-    /// The turn, where no node runs, and its outcome, if it has one.
+    /// The turn, if no node runs, and its outcome, if it has one.
     pub fn turn_with_reply(&mut self) -> Result<Reply<A>, AllocError>
         requires fresh { self.old.made ≡ [] }
         requires open { self.old.machine.outcome ≡ None }

@@ -3,7 +3,7 @@
 use node_core::State;
 use std::fmt;
 
-/// What a rank did in a superstep. Bytes and messages are those of the exchange at its end, and 0 where none is made.
+/// What a rank did in a superstep. Bytes and messages are those of the exchange at its end, and 0 if none is made.
 #[derive(Clone, Copy, Debug, PartialEq, Eq)]
 pub struct Row {
     /// The number of the superstep, from 0.

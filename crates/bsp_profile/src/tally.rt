@@ -26,7 +26,7 @@ pub(crate) struct Tally<A: Allocator> {
 }
 
 impl<A: Allocator + Copy> Tally<A> {
-    /// What the exchange at the end of this superstep moves, none of whose nodes runs any more: nothing where none is made.
+    /// What the exchange at the end of this superstep moves, none of whose nodes runs any more: nothing if none is made.
     pub(crate) fn of(alloc: A, machine: &Machine<A>) -> Result<Tally<A>, AllocError>
         requires sound { IsSoundMachine machine.now }
         ensures { IfOk result (λ t. Tells machine.now.nodes t.count t.cells.items) }

@@ -9,7 +9,7 @@ pub trait Gate<A: Allocator> {
     /// Called before the steps of the node of a rank.
     fn enter(&self, rank: u32);
 
-    /// Called after these steps, at whose end the node is as given, also where memory was refused in one.
+    /// Called after these steps, at whose end the node is as given, also if memory was refused in one.
     fn leave(&self, rank: u32, node: &Node<A>);
 }
 

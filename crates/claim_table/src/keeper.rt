@@ -48,7 +48,7 @@ impl<'p, A: Allocator + Copy> ClaimTable<'p, A> {
     /// A table to which each node of the row has come. The table is made before a node moves.
     ///
     /// # Errors
-    /// Where memory is refused. The row is as it was then.
+    /// If memory is refused. The row is as it was then.
     pub fn open(
         input: &'p [u8],
         mut row: Vec<Node<A>, A>,

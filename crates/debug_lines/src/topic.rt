@@ -77,7 +77,7 @@ pub(crate) enum Sessions {
 /// A form of the lines with one first word.
 #[derive(Clone, Copy)]
 pub(crate) struct LineForm {
-    /// What stands behind that word: operands in capitals, and what can be left out in brackets.
+    /// What is after that word: operands in capitals, and what can be left out in brackets.
     pub(crate) operands: &'static str,
     /// What a line of the form does.
     pub(crate) purpose: &'static str,

@@ -51,7 +51,7 @@ impl fmt::Display for Verdict {
     }
 }
 
-/// What is told behind the name of a refusal.
+/// What is told after the name of a refusal.
 fn advice_on(error: DebugError) -> &'static str
     ensures { result.now ≡ advice error }
 {

@@ -17,7 +17,7 @@ use std::alloc::{AllocError, Allocator};
 /// Makes the local parts of a superstep, rank by rank, and notes which calls make its requests.
 ///
 /// # Errors
-/// Where memory is refused. The steps before that are made.
+/// If memory is refused. The steps before that are made.
 pub(crate) fn note_parts<A: Allocator + Copy>(
     alloc: A,
     machine: &mut Machine<A>,

@@ -1,4 +1,4 @@
-//! The sessions, each of which is refused each of its requests for memory.
+//! The sessions, with each of their requests for memory refused in turn.
 
 use crate::program::{Heap, INPUT, LANGUAGE, SETTINGS, TEXT};
 use bsp_console::{debug_dialogue, debug_framed, debug_session};

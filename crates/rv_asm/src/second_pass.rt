@@ -17,7 +17,7 @@ use asm_syntax::{parse_line, split_line};
 use rv_atomics::Extensions;
 use std::alloc::Allocator;
 
-/// Writes a line that has no fault by itself behind the program so far.
+/// Writes a line that has no fault by itself after the program so far.
 fn write_line<A: Allocator + Copy>(
     alloc: A,
     extensions: Extensions,

@@ -19,7 +19,7 @@ pub fn word_of(n: i64) -> u32
     n.rem_euclid(1 << 32) as u32
 }
 
-/// The word that a target stands for; none where its label is not known.
+/// The word that a target stands for; none if its label is not known.
 pub fn value_of<A: Allocator + Copy>(labels: &Labels<'_, A>, target: &Target<'_>) -> Option<u32>
     requires { IsTarget (target_value target.now) }
     ensures { result ≡ Targets.value_of (symbols labels.now) (target_value target.now) }

@@ -31,7 +31,7 @@ macro_rules! value_of {
     };
 }
 
-/// The word of an instruction, or none where a register or an immediate does not fit its field.
+/// The word of an instruction, or none if a register or an immediate does not fit its field.
 ///
 /// Each instruction has one word.
 pub fn encode(instr: &FloatInstr) -> Option<u32>

@@ -76,7 +76,7 @@ pub fn rounding_name(rounding: RoundingField) -> &'static str
     }
 }
 
-/// The rounding mode with a name, or none where no mode has it.
+/// The rounding mode with a name, or none if no mode has it.
 pub fn rounding_named(name: &[u8]) -> Option<RoundingField>
     ensures { result ≡ rounding_named name.now }
 {
@@ -94,7 +94,7 @@ pub fn csr_name(csr: FloatCsr) -> &'static str
     }
 }
 
-/// The control and status register of floating point with a name, or none where none of them has it.
+/// The control and status register of floating point with a name, or none if none of them has it.
 pub fn csr_named(name: &[u8]) -> Option<FloatCsr>
     ensures { result ≡ csr_named name.now }
 {

@@ -20,7 +20,7 @@ macro_rules! value_of {
     };
 }
 
-/// The word of an instruction, or none where a register, a shift amount or an immediate does not fit its field.
+/// The word of an instruction, or none if a register, a shift amount or an immediate does not fit its field.
 ///
 /// Each instruction has one word, but for the two fences: `fence` is answered as `fence iorw,iorw`, and `fence.i` with
 /// its unused fields zero.

@@ -22,7 +22,7 @@ use std::alloc::Allocator;
 /// Whether two nodes have equal records, as far as the crate's page says.
 ///
 /// # Errors
-/// Where there is no memory for a copy of the nodes' bytes.
+/// If there is no memory for a copy of the nodes' bytes.
 pub fn are_same<A: Allocator + Copy>(node: &Node<A>, other: &Node<A>) -> Result<bool, ReadError>
     ensures { IfOk result (λ same. IsTrue same → LookAlike node.now.node other.now.node) }
 {
@@ -234,7 +234,7 @@ fn are_same_messages<A: Allocator>(message: &Message<A>, other: &Message<A>) -> 
 /// Whether two memories have the same bytes.
 ///
 /// # Errors
-/// Where there is no memory for a copy of the bytes.
+/// If there is no memory for a copy of the bytes.
 fn have_same_bytes<A: Allocator + Copy>(
     memory: &Memory<A>,
     other: &Memory<A>,

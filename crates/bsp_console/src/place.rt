@@ -31,7 +31,7 @@ fn add_more<A: Allocator>(text: &mut String<A>, count: usize) -> Result<(), Allo
     ensures { IfOk result (λ _. string_bytes text.new ≡ string_bytes text.old ++ more_text count) }
 {
     if count > 0 {
-        writeln!(text, "and {count} more: where tells all")?;
+        writeln!(text, "and {count} more: where shows all")?;
     }
     Ok(())
 }

@@ -56,7 +56,9 @@ impl fmt::Display for RunError<'_> {
     fn fmt<W: fmt::Write>(&self, f: &mut fmt::Formatter<W>) -> fmt::Result {
         match self {
             RunError::CannotOpen(path) => write!(f, "cannot open {path}"),
-            RunError::TooManyNodes => f.write_str("a profile is of at most 1024 nodes"),
+            RunError::TooManyNodes => f.write_str(
+                "cannot write a profile of more than 1024 nodes; use fewer nodes, or no --profile",
+            ),
             RunError::Session(error) => write!(f, "{error}"),
         }
     }

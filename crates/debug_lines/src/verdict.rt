@@ -21,7 +21,7 @@ pub enum Verdict {
     BadCommand,
     /// It has the first word of these lines, and is none of them: `refused: BadCommand: the line is over RANK`.
     Misused(Topic),
-    /// It has the first word of no line: `refused: BadCommand: there is no such line; help tells the lines`.
+    /// It has the first word of no line: `refused: BadCommand: there is no such line; help lists the lines`.
     NoLine,
 }
 
@@ -45,7 +45,7 @@ impl fmt::Display for Verdict {
             }
             Verdict::NoLine => write!(
                 f,
-                "refused: BadCommand: there is no such line; help tells the lines\n"
+                "refused: BadCommand: there is no such line; help lists the lines\n"
             ),
         }
     }

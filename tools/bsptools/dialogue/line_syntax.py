@@ -127,7 +127,7 @@ class Lines:
         verb = ALSO.get(verb, verb)
         usages = self.of(verb)
         if not usages:
-            raise Denied(RefusalCode.BAD_COMMAND, f"there is no line {printable(verb)}{self._meant(verb)}; help tells the lines")
+            raise Denied(RefusalCode.BAD_COMMAND, f"there is no line {printable(verb)}{self._meant(verb)}; help lists the lines")
         # Where the word behind the verb is that of a line, it is that line.
         usages = [usage for usage in usages if usage.split()[1:2] == words[:1]] or usages
         refusals: List[Mismatch] = []
@@ -169,7 +169,7 @@ class Lines:
         """What is told of all lines, or of those with a verb."""
         usages = self.of(verb) if verb else list(self.purposes)
         if not usages:
-            raise Denied(RefusalCode.BAD_COMMAND, f"there is no line {printable(verb)}; help tells the lines")
+            raise Denied(RefusalCode.BAD_COMMAND, f"there is no line {printable(verb)}; help lists the lines")
         width = max(map(len, usages))
         yield from (f"{usage:{width}}  {self.purposes[usage]}" for usage in usages)
         yield from [] if verb else [OPERANDS]

@@ -1,5 +1,5 @@
-/* What was asked for in a superstep comes about: all gets read, then gets land, and then puts; where two write the same byte, puts count more
-   than gets, higher ranks more than lower ones, and later calls more than earlier ones. So it is on the nodes of the emulator. */
+/* Carries out the requests of a superstep: all gets read, then gets land, and then puts. If two write the same byte, puts count more than
+   gets, higher ranks more than lower ones, and later calls more than earlier ones, as on the nodes of the emulator. */
 #include "native.h"
 
 #include <string.h>

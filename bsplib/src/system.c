@@ -1,4 +1,4 @@
-/* Start, end, memory and the standard streams of a node: what lies under a C library, and picolibc leaves to a system. */
+/* Start, end, memory and standard streams of a node, which picolibc leaves to the system. */
 #include "machine.h"
 
 unsigned bsp_memory_size __attribute__((section(".data"))) = 0; /* set before anything else runs */

@@ -1,4 +1,4 @@
-"""The tools of the repository or of the wheel, started by this Python."""
+"""Starts the tools of the repository or of the wheel with this Python."""
 
 from __future__ import annotations
 

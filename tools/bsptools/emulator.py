@@ -1,4 +1,4 @@
-"""Where the emulator and the compiler are, what they are, and runs of the emulator while a person waits."""
+"""Finds the emulator and the compiler, and runs the emulator while a person waits."""
 
 from __future__ import annotations
 

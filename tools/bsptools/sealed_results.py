@@ -1,4 +1,4 @@
-"""What came of runs, kept in files that tell by themselves whether they are as this user's tools wrote them.
+"""Results of runs, kept in files with a seal that shows whether they were changed.
 
 Each has a seal, which follows from the name that it is kept under, from all that it has, and from a key that only this user can read. So
 results that came with a folder of somebody else are not believed. Whoever writes a result needs no key: the ticket of its name is enough,

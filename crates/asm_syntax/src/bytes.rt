@@ -1,4 +1,4 @@
-//! The bytes of a line by their kinds.
+//! The kinds of bytes in a line.
 
 ghost use Rattle.std.specs.Prelude.{◌≡◌};
 ghost use Rattle.asm_syntax.specs.Bytes.{is_blank, is_word_byte, is_plain, escape_value};

@@ -1,4 +1,4 @@
-//! The statements of floating point by their mnemonics, and what each makes of its operands.
+//! The floating-point statements by their mnemonics, and what each makes of its operands.
 
 ghost use Rattle.std.specs.Prelude.{◌≡◌, option_map};
 ghost use Rattle.asm_syntax.specs.FloatForms.{float_forms, float_form_named, float_mnemonic, row_instruction, row_of};

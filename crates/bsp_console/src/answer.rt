@@ -1,4 +1,4 @@
-//! What one line is answered.
+//! The answer to one line.
 
 ghost use Rattle.std.specs.Prelude.{◌≡◌, ◌≢◌, ◌≤◌, ◌⊎◌, ◌++◌, ℕ, List, [], codes, true, false, not, is_some};
 ghost use Rattle.std.specs.Prelude.{length, nat_lt, IfErr, IfOk, MatchResult, OnOk, string_bytes};

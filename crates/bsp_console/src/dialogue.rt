@@ -1,4 +1,4 @@
-//! The sessions whose lines are read when they are wanted: the dialogue and the framed session.
+//! The sessions that read each line when they need it: the dialogue and the framed session.
 
 ghost use Rattle.std.specs.Prelude.{◌≡◌, ◌≢◌, ◌≤◌, ◌⊎◌, ◌↔◌, ℕ, List, length, take, Some, None, IfErr, OnOk, IsErrOf};
 ghost use Rattle.std.specs.Io.KnownBytes.{Appends};

@@ -1,4 +1,4 @@
-//! Sessions with the debugger: a program is read, and the lines of a script are answered one by one.
+//! Sessions with the debugger: each reads a program, and answers the lines of a script one by one.
 //!
 //! Each session reads an image and an input to their ends, makes a machine of them, puts it into a [`Debugger`](bsp_debug::Debugger), and
 //! answers lines with it, each before the next one is looked at. One definition says how lines are answered. The sessions differ in which

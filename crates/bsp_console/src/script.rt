@@ -1,4 +1,4 @@
-//! The session whose script is read whole before anything is made of it.
+//! The session that reads its whole script first.
 
 ghost use Rattle.std.specs.Prelude.{◌≡◌, ◌≢◌, ◌<◌, ◌↔◌, ◌∷◌, [], length, Some, None, IfErr, IfSome, OnOk, IsErrOf};
 ghost use Rattle.std.specs.Option.{option_map_or};

@@ -1,4 +1,4 @@
-//! What a debugger is asked for.
+//! The commands of a debugger.
 
 /// What a debugger does with its machine, or reads of it.
 #[derive(Clone, Copy)]

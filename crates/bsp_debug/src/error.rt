@@ -1,4 +1,4 @@
-//! What a debugger refuses.
+//! Why a debugger refuses a command.
 
 use std::alloc::AllocError;
 use std::fmt;

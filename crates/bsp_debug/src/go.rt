@@ -1,4 +1,4 @@
-//! The commands that make events, of a machine without an outcome.
+//! The commands that make events.
 
 ghost use Rattle.std.specs.Prelude.{◌≡◌, ◌+◌, [], length, true, false, None, Ok, IfOk, OnOk, OnErr, if◌then◌else◌};
 ghost use Rattle.machine_core.specs.declared.event.Event.TheVariants.{Turn as the_turn};

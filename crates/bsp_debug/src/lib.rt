@@ -1,10 +1,9 @@
 //! A debugger: the machine, stepped by commands.
 //!
 //! A [`Debugger`] has a machine, states of it that it keeps, and a set of [`Point`]s at which [`Command::Go`] stops. Its model has these,
-//! the machine at its beginning, and the events that the last command made. A command makes events of the machine, which are steps of
-//! single nodes and turns, and no others; or it only reads. And [`Debugger::back`] brings the machine to a state in which it was. So the
-//! debugger is one more scheduler of the machine, and since the order of events does not matter, nothing that it does changes how a run
-//! ends.
+//! the machine at its beginning, and the events that the last command made. A command makes events of the machine (steps of single nodes,
+//! and turns) or only reads. [`Debugger::back`] returns the machine to an earlier state. So the debugger is one more scheduler of the
+//! machine. Since the order of events does not matter, nothing that it does changes how a run ends.
 //!
 //! Callers may rely on this:
 //!
@@ -13,10 +12,10 @@
 //! - `Step`, `Run`, `Return`, `Phase` and `Turn` make exactly the events that they name. `Go` makes at least one event of the machine's
 //!   walk, and ends with the first that leads to a stop: the outcome, or else a superstep with a point, or else a next step with a point.
 //!   Its events are determined ([`laws::go_has_one_way`]).
-//! - What [`Debugger::keep`] kept under a number, [`Debugger::back`] brings back whole: all of the machine, and nothing else, so that
-//!   points stay. A number is that of one state; [`Debugger::forget`] gives it to no other.
-//! - At all times the machine, and each state that is kept, is one to which events lead from the machine with which the debugger began
-//!   ([`Debugger::machine`]), and so has its end ([`laws::going_back_changes_no_end`]).
+//! - [`Debugger::back`] restores the whole machine that [`Debugger::keep`] kept under a number, and nothing else, so points stay. A number
+//!   belongs to one state: after [`Debugger::forget`], no other state gets it.
+//! - At all times, events lead from the machine with which the debugger began to its machine ([`Debugger::machine`]) and to each kept
+//!   state. So each of them has the same end ([`laws::going_back_changes_no_end`]).
 //! - A reply is what the definitions give for the machine before and after the command.
 //! - Each refusal except [`DebugError::NoMemory`] is answered exactly if its condition holds, and then no event was made.
 //! - If memory is refused, the first events of the command were made; `Return`, `Turn` and `Go` did not make all of theirs. The same

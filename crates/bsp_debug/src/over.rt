@@ -1,4 +1,4 @@
-//! What steps over an instruction, and whose step is the next of all.
+//! How to step over an instruction, and which rank makes the next step.
 
 ghost use Rattle.std.specs.Prelude.{◌≡◌, find, option_copied};
 ghost use Rattle.rv_tables.specs.Codes.{code_at};

@@ -1,4 +1,4 @@
-//! The profile of a run, as far as it has come.
+//! The profile of a run so far.
 
 ghost use Rattle.std.specs.Prelude.{◌≡◌, ◌++◌, true, IfOk, OnOk, OnErr};
 ghost use Rattle.machine_core.specs.declared.event.Event.TheVariants.{Turn as the_turn};

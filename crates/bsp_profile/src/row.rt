@@ -1,4 +1,4 @@
-//! What a line of a profile says, and its text.
+//! A line of a profile: its values and its text.
 
 use node_core::State;
 use std::fmt;

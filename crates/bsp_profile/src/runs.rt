@@ -1,4 +1,4 @@
-//! Runs whose profile is taken.
+//! Runs with a profile.
 
 ghost use Rattle.std.specs.Prelude.{◌≡◌, ◌++◌, ℕ, None, IsSome, OnErr, OnOk};
 ghost use Rattle.machine_core.specs.Turn.{IsRunToEnd};

@@ -1,4 +1,4 @@
-//! What an exchange moves from rank to rank, added up request by request before it is made.
+//! Adds up what an exchange will move from rank to rank.
 
 ghost use Rattle.std.specs.Prelude.{◌≡◌, ℕ, ◌+◌, ◌*◌, ◌^◌, ◌<◌, ◌≤◌, All, IfOk, length, map, slice_index, slice_set, sum_by, replicate};
 ghost use Rattle.std.specs.List.{range_with_len};

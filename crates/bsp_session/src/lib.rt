@@ -1,10 +1,10 @@
-//! Sessions: a program is read, run on every node, and what the nodes wrote is written.
+//! Sessions: each reads a program, runs it on every node, and writes their output.
 //!
 //! A [`session`] reads an image and an input to their ends, makes a machine of them, and runs it superstep by superstep to its outcome.
 //! Then it writes the report: the output of the nodes and, if the [`Job`] asks for them, the costs of the supersteps, their total and the
 //! outcome. Its model is a function of bytes: those of the image and of the input determine the machine at its end, and this the bytes
 //! written and the [`Outcome`]. It is generic over its readers, its writer and its allocator. Files, options and the process's exit belong
-//! to the program above it, to which [`status`] and the texts of [`SessionError`] serve.
+//! to the program above it, which uses [`status`] and the texts of [`SessionError`].
 //!
 //! Callers may rely on this, as far as contracts know the bytes of the readers and of the writer:
 //!
@@ -21,8 +21,8 @@
 //!   about later stages.
 //! - A listing ([`list_session`]) and a saved image ([`asm_session`]) have the same rules, for the stages that they have. Only a
 //!   listing may be refused memory after something was written: it ends after a whole line then.
-//! - A run with a profile ([`profile_session`]) has the same report and the same errors. The profile is that of the run from its start,
-//!   whole before anything is written; it is written after the report. Only a fault of its own writer leaves a part of it.
+//! - A run with a profile ([`profile_session`]) has the same report and the same errors. The profile covers the run from its start. It is
+//!   complete before anything is written, and it is written after the report. Only a fault of its own writer leaves a part of it.
 //! - So has a run with counts ([`counts_session`]), which makes all steps in one thread.
 //! - So has a run that reports contested bytes ([`contested_session`]), and one that reports what its calls expose ([`exposed_session`]),
 //!   in one thread.
@@ -32,7 +32,7 @@
 //!   the report are written, and perhaps all of them.
 //! - [`plain_session`], [`plain_live_session`] and [`plain_profile_session`] make the same runs in one thread and start no other. They
 //!   have the same clauses, and never answer [`SessionError::NoWorker`].
-//! - Workers have no part in what is written: the report is that of the definitions, which know none.
+//! - The number of workers does not affect what is written: the report is that of the definitions, which have no workers.
 //!
 //! A session waits for its own threads alone. It ends if these and the calls of its readers and its writer do: a node makes at
 //! most as many steps as its limit of ticks, there is at most one superstep more than that, and an interrupted call is tried

@@ -1,4 +1,4 @@
-//! The program `bspemu`: it runs RISC-V programs on an emulated bulk synchronous parallel machine, whole or as a debugger's lines say.
+//! The program `bspemu`: it runs RISC-V programs on an emulated bulk synchronous parallel machine, or debugs them by lines.
 //!
 //! A thin shell over [`bsp_session`] and [`bsp_console`]: [`command_line`] has the rules of the command line, [`options`] says what the
 //! words ask for by them, [`files`] opens what they name, and [`program`] runs the session on it and reports how that went, by a line on

@@ -1,4 +1,4 @@
-//! From the command line to the exit status.
+//! The whole program: from the command line to the exit status.
 
 ghost use Rattle.std.specs.Prelude.{◌≡◌, ◌⊎◌, IfErr, OnOk, map};
 ghost use Rattle.clap.specs.Words.{kind_of};

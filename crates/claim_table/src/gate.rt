@@ -1,4 +1,4 @@
-//! What the pool calls round the steps of each node.
+//! A gate: what the pool calls before and after the steps of each node.
 
 use node_core::Node;
 use std::alloc::Allocator;

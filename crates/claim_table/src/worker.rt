@@ -1,4 +1,4 @@
-//! A worker at the table: it is counted, takes nodes and gives them back, and is counted no longer.
+//! A worker at the table: it enrols, takes nodes and gives them back, and retires.
 
 ghost use Rattle.std.specs.Prelude.{◌≡◌, ◌+◌, ◌<◌, ◌%◌, Some};
 ghost use mathlib.Core.Option.{some};

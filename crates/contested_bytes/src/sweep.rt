@@ -1,4 +1,4 @@
-//! Finds the contested bytes of landings that come by rank and then by address.
+//! Finds the contested bytes of landings that are sorted by rank and then by address.
 
 ghost use Rattle.std.specs.Prelude.{◌≡◌, ℕ, ◌≤◌, ◌<◌, ◌↔◌, ◌⊎◌, true, false, List, All, Contains, OnOk, IfOk, length, slice_index_or};
 ghost use Rattle.bsp_exchange.specs.Landings.{Landing as LandingValue};

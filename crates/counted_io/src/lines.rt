@@ -1,4 +1,4 @@
-//! The lines of a text that is read as they are wanted.
+//! A reader that reads a text line by line, only as far as needed.
 
 ghost use Rattle.std.specs.Prelude.{◌≡◌, ◌+◌, ◌<◌, ◌≤◌, ◌⊎◌, ◌∷◌, [], IfNone, IfOk, IfSome, IsOk, OnErr, OnOk, Ok, drop, false, length};
 ghost use Rattle.std.specs.Prelude.{slice_index, true, ℕ};

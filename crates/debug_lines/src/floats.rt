@@ -1,4 +1,4 @@
-//! Registers of floating point and fcsr.
+//! The text of the floating-point registers and fcsr.
 
 ghost use Rattle.std.specs.Prelude.{◌≡◌, ◌<◌, ◌++◌, IfOk, string_bytes};
 ghost use Rattle.debug_lines.specs.Floats.{float_blanks, named_float_lines, named_float_registers as named_registers_of};

@@ -1,4 +1,4 @@
-//! What dialogues and framed sessions add to the replies: those that scripts do not have.
+//! The replies that only dialogues and framed sessions have.
 
 ghost use Rattle.std.specs.Prelude.{◌≡◌, ◌≤◌, ◌++◌, length, IfOk, string_bytes};
 ghost use Rattle.cost_ledger.specs.CostRow.{ending_text, superstep_line, total_in as total_of, total_line};

@@ -1,4 +1,4 @@
-//! How the states that a debugger keeps are listed.
+//! The text of the states that a debugger keeps.
 
 ghost use Rattle.std.specs.Prelude.{◌≡◌, ◌++◌, List, map, IfOk, string_bytes};
 ghost use Rattle.std.specs.List.{flat_map};

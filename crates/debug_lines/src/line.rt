@@ -1,4 +1,4 @@
-//! What a line asks for.
+//! The parser of a line: what it asks for.
 
 ghost use Rattle.std.specs.Prelude.{◌≡◌};
 ghost use Rattle.debug_lines.specs.Lines.{line_of, line_of_words, line_of_one, command_of_one, line_of_two};

@@ -1,4 +1,4 @@
-//! What a line is answered that has no reply.
+//! The answers to lines that have no reply, such as refusals.
 
 ghost use Rattle.std.specs.Prelude.{◌≡◌};
 ghost use Rattle.debug_lines.specs.Verdicts.{advice};

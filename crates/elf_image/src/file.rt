@@ -1,4 +1,4 @@
-//! A file that is ELF for RISC-V, and its table of program headers.
+//! An ELF file for RISC-V, and its table of program headers.
 
 ghost use Rattle.std.specs.Prelude.{◌≡◌, ◌+◌, ◌<◌, ◌≤◌, ◌^◌, length, None, IfOk};
 ghost use Rattle.std.specs.Result.{result_err};

@@ -1,4 +1,4 @@
-//! The local parts of a superstep, and what is noted of their requests.
+//! The local parts of a superstep, with a note of each request.
 
 ghost use Rattle.std.specs.Prelude.{◌≡◌, ◌++◌, ℕ, false, replicate, IfOk, OnErr, OnOk, option_map, slice_get};
 ghost use Rattle.std.specs.Option.{option_map_or};

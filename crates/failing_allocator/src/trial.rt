@@ -1,4 +1,4 @@
-//! Calls that are tried with each of their requests for memory failed.
+//! Tries a call with each of its memory requests failing in turn.
 
 use crate::FailingAllocator;
 use std::fmt;

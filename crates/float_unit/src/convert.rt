@@ -1,4 +1,4 @@
-//! Conversions into registers of floating point.
+//! Conversions into floating-point registers.
 
 ghost use Rattle.std.specs.Prelude.{◌≡◌, ◌^◌, ◌<◌};
 ghost use Rattle.float_unit.specs.Values as Values;

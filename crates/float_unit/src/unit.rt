@@ -1,4 +1,4 @@
-//! The registers of floating point and fcsr.
+//! The floating-point registers and fcsr.
 
 ghost use Rattle.std.specs.Prelude.{◌≡◌, ◌*◌, ◌<◌};
 ghost use Rattle.std.specs.Prelude as Prelude;

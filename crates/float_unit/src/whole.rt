@@ -1,4 +1,4 @@
-//! Conversions of floats to words, toward zero, for values in range. Nothing here asks the host to convert a float.
+//! Conversions of floats to integers, toward zero, for values in range. Nothing here asks the host to convert a float.
 
 ghost use Rattle.std.specs.Prelude.{◌≡◌, ℕ, ◌+◌, ◌*◌, ◌%◌, ◌^◌, ◌<◌, ◌≤◌, true, false, IsTrue, IfSome, is_some, ◌&&◌, ◌||◌};
 ghost use Rattle.rv_floats.specs.declared.rounding.Rounding.TheVariants.{TowardZero};

@@ -1,4 +1,4 @@
-//! What happens in a machine, one at a time.
+//! The events of a machine: a step of a node, or the turn.
 
 /// An event of a machine. One that is not enabled changes nothing.
 #[derive(Clone, Copy, Debug, PartialEq, Eq)]

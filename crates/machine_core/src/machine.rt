@@ -1,4 +1,4 @@
-//! The machine itself: its events, its runs, and what can be read of it.
+//! The machine itself: its events, its runs, and its readers.
 
 ghost use Rattle.std.specs.Prelude.{◌≡◌, ◌<◌, ℕ, None, IfOk, OnOk, OnErr, IsSome, IsSomeAnd, length, map, slice_get, option_copied};
 ghost use Rattle.std.specs.Prelude.{option_map, true};

@@ -1,4 +1,4 @@
-//! A program that asks for all that takes memory, and a machine that runs it.
+//! A program that makes every call that takes memory, and a machine that runs it.
 
 use failing_allocator::FailingAllocator;
 use machine_core::{Machine, Settings};

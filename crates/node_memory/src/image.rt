@@ -1,4 +1,4 @@
-//! Images: what a loader or an assembler makes, and a memory starts from.
+//! Images, which a loader or an assembler makes and from which a memory starts.
 
 ghost use Rattle.std.specs.Prelude.{◌≡◌};
 

@@ -1,4 +1,4 @@
-//! What is wrong with a text.
+//! The faults of a text.
 
 ghost use Rattle.std.specs.Prelude.{◌≡◌};
 ghost use Rattle.rv_asm.specs.ErrorTexts.{kind_name};

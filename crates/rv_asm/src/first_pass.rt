@@ -1,4 +1,4 @@
-//! The first judging: what can be known of each line without the addresses of labels, and those addresses.
+//! The first pass: checks each line without the addresses of labels, and finds these addresses.
 
 ghost use Rattle.std.specs.Prelude.{◌≡◌, ◌≢◌, ◌^◌, ◌≤◌, List, ℕ, length, Option, None, Some};
 ghost use Rattle.std.specs.Prelude.{is_some, option_map, false, Ok, OnOk, IfOk, IfErr, IfSome};

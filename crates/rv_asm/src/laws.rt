@@ -1,4 +1,4 @@
-//! Facts about texts, their faults and their images. There is nothing to run: a caller calls one for what it ensures.
+//! Laws of texts, their faults and their images. There is nothing to run: a caller calls one for what it ensures.
 
 ghost use Rattle.std.specs.Prelude.{◌≡◌, ◌≢◌, List, ℕ, None, Some};
 ghost use Rattle.node_memory.specs.Image.{Image};

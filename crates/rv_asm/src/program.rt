@@ -1,4 +1,4 @@
-//! What a program is made of while its text is gone through.
+//! The program so far, while its text is assembled.
 
 ghost use Rattle.std.specs.Prelude.{◌≡◌, ◌≢◌, ◌⊎◌, ◌+◌, ◌^◌, ◌≤◌, OnOk, IfErr, Some, None, unwrap_or, option_and_then, IfSome, vec_len};
 ghost use Rattle.asm_syntax.specs.Statements.{IsInRange};

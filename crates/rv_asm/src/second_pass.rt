@@ -1,4 +1,4 @@
-//! The second judging, of uses of labels, and the bytes of the lines.
+//! The second pass: checks the uses of labels, and writes the bytes of the lines.
 
 ghost use Rattle.std.specs.Prelude.{◌≡◌, ◌≢◌, ◌^◌, ◌≤◌, List, ℕ, length, None, Some, unwrap_or};
 ghost use Rattle.std.specs.Prelude.{vec_len, option_and_then, IsOkAnd, OnOk, IfOk, IfErr};

@@ -1,4 +1,4 @@
-//! The values of targets, and how far jumps go to them.
+//! The values of targets, and the offsets of jumps to them.
 
 ghost use Rattle.std.specs.Prelude.{◌≡◌, ◌↔◌, ◌^◌, IsTrue};
 ghost use Rattle.rv_tables.specs.Operands.{IsBranchOffset, IsJumpOffset};

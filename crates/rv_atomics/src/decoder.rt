@@ -1,4 +1,4 @@
-//! The instruction of a word.
+//! Decodes a word of A.
 
 ghost use Rattle.std.specs.Prelude.{◌≡◌, bit_and};
 ghost use Rattle.rv_tables.specs.Operands.{IsFound};

@@ -1,4 +1,4 @@
-//! The word of an instruction.
+//! Encodes an instruction of A as a word.
 
 ghost use Rattle.std.specs.Prelude.{◌≡◌, ◌*◌, ◌^◌, Some};
 ghost use Rattle.rv_tables.specs.Words.{IsEncoded};

@@ -1,4 +1,4 @@
-//! Sums, products, quotients and roots that raise no new flags, as far as a few comparisons find it out.
+//! Quick tests whether a sum, product, quotient or root raises no new flag.
 
 ghost use Rattle.std.specs.Prelude.{◌≡◌, is_some, IfSome};
 ghost use Rattle.rv_float_flags.specs.Flags.{accrued};

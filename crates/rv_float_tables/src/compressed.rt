@@ -1,4 +1,4 @@
-//! The instruction that a halfword expands to.
+//! Expands a compressed load or store of floating point.
 
 ghost use Rattle.std.specs.Prelude.{◌≡◌};
 ghost use Rattle.rv_tables.specs.Halfwords as Halfwords;

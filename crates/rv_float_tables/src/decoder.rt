@@ -1,4 +1,4 @@
-//! The instruction of a word.
+//! Decodes a word of floating point.
 
 ghost use Rattle.std.specs.Prelude.{◌≡◌, ◌≢◌, ◌/◌, ◌^◌, ◌≤◌, ◌<◌, bit_and};
 ghost use Rattle.std.specs.Option.{option_and_then};

@@ -1,4 +1,4 @@
-//! The word of an instruction.
+//! Encodes a floating-point instruction as a word.
 
 ghost use Rattle.std.specs.Prelude.{◌≡◌, ◌++◌, codes, Some};
 ghost use Rattle.rv_tables.specs.Words.{IsEncoded};

@@ -1,4 +1,4 @@
-//! The bit fields of a word that instructions on integers do not have, and what their values mean.
+//! The bit fields that integer instructions do not have, and what their values mean.
 
 ghost use Rattle.std.specs.Prelude.{◌≡◌};
 ghost use Rattle.rv_float_tables.specs.Fields.{funct5, rm, csr, uimm, rs3};

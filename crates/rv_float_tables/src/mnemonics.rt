@@ -1,4 +1,4 @@
-//! The names of the instructions, of rounding modes, and of control and status registers.
+//! The names of instructions, of rounding modes, and of control and status registers.
 
 ghost use Rattle.std.specs.Prelude.{◌≡◌};
 ghost use Rattle.rv_float_tables.specs.Mnemonics.{float_mnemonic_of, rounding_name, rounding_named, csr_name, csr_named};

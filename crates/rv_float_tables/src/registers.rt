@@ -1,4 +1,4 @@
-//! The names of the registers.
+//! The names of the floating-point registers.
 
 ghost use Rattle.std.specs.Prelude.{◌≡◌};
 ghost use Rattle.std.specs.Option.{option_map};

@@ -1,4 +1,4 @@
-//! Statements of instructions of floating point.
+//! Statements of floating-point instructions.
 
 ghost use Rattle.std.specs.Prelude.{◌≡◌, ◌++◌, codes};
 ghost use Rattle.std.specs.List.{flat_map};

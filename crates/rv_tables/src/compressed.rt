@@ -1,4 +1,4 @@
-//! The instruction that a halfword expands to.
+//! Expands a halfword to the instruction that it stands for.
 
 ghost use Rattle.std.specs.Prelude.{◌≡◌, nat_lt, if◌then◌else◌, Some, None};
 ghost use Rattle.rv_tables.specs.Fields.{bits};

@@ -1,4 +1,4 @@
-//! The instruction of a word.
+//! Decodes a word.
 
 ghost use Rattle.std.specs.Prelude.{◌≡◌, ◌≢◌, ◌⊎◌, bit_and};
 ghost use Rattle.std.specs.Option.{option_map};

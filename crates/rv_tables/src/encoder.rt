@@ -1,4 +1,4 @@
-//! The word of an instruction.
+//! Encodes an instruction as a word.
 
 ghost use Rattle.std.specs.Prelude.{◌≡◌, ◌↔◌, ℕ, ◌^◌, ◌<◌, Some, IsSome, IfSome, bit_and};
 ghost use Rattle.rv_tables.specs.Mnemonics.{row_named, r_mnemonic, i_mnemonic, shift_mnemonic, load_mnemonic, store_mnemonic};

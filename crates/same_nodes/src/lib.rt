@@ -1,8 +1,8 @@
-//! Whether two nodes have equal records, for tests: what their readers give is compared, byte by byte.
+//! Compares the records of two nodes, for tests, by what their readers return, byte by byte.
 //!
-//! If the answer is that they have, the records are equal except for the most ticks that a node may make, and the addresses and sizes of
-//! this superstep's pushes and pops. The kinds and the order of these are compared, and their areas once they are in effect. Which pages
-//! are private, and whether room is made, is not compared.
+//! If the answer is that they are equal, the records are equal except for the limit of ticks, and the addresses and sizes of this
+//! superstep's pushes and pops. The kinds and the order of these are compared, and their areas once they are in effect. It does not compare
+//! which pages are private, or whether room is made.
 #![tactic(auto)]
 
 ghost use Rattle.std.specs.Prelude.{◌≡◌, length, slice_get, slice_index, IfOk, IsTrue, option_map};

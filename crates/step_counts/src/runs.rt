@@ -1,4 +1,4 @@
-//! A run whose steps are counted.
+//! A run that counts its steps.
 
 ghost use Rattle.std.specs.Prelude.{◌≡◌, ℕ, IfOk, OnErr, OnOk, string_bytes};
 ghost use Rattle.std.specs.Fn.{iterate};

@@ -1,4 +1,4 @@
-//! Why local parts or a run did not come to their end.
+//! Why a run or its local parts did not finish.
 
 ghost use Rattle.std.specs.Prelude.{◌≡◌, ◌↔◌, ◌||◌, IsOk, IsErrOf, IsTrue, IsFalse, is_err};
 

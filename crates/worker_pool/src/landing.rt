@@ -1,4 +1,4 @@
-//! The exchange of a turn, whose stages one thread makes for each node: nodes are prepared for their parts, and then these land.
+//! The exchange of a turn in several threads: the nodes are prepared for their parts, and then the parts land.
 
 ghost use Rattle.std.specs.Prelude.{◌≡◌, ◌+◌, ◌-◌, ◌++◌, ◌<◌, ◌≤◌, ◌&&◌, ◌||◌, IfOk, IfErr, IsTrue, IsFalse, length, vec_len, vec_capacity};
 ghost use Rattle.std.specs.Thread.{IsSend, IsSync};

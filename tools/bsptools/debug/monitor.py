@@ -1,4 +1,4 @@
-"""What gdb's `monitor` can ask for: what the machine has and gdb has no command for."""
+"""The commands of gdb's `monitor`: what the machine has and gdb has no command for."""
 
 from __future__ import annotations
 

@@ -1,4 +1,4 @@
-"""Offsets and sizes in elements where BSPlib counts bytes, by the types of the variables that are named.
+"""Offsets and sizes that are given in elements, but BSPlib counts bytes: found by the types of the variables.
 
 The run is made again, in the debugger, beside which nothing is looked at but areas and requests. It is given as long as the run took.
 """

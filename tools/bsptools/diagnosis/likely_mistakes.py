@@ -1,4 +1,4 @@
-"""What is likely a mistake in a run, also in one that ends well."""
+"""Likely mistakes of a run, also of one that succeeds."""
 
 from __future__ import annotations
 

@@ -1,4 +1,4 @@
-"""The first difference between an output and the one that was wanted, in words."""
+"""The first difference between an output and the expected one, in words."""
 
 from __future__ import annotations
 

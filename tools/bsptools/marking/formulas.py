@@ -1,4 +1,4 @@
-"""Bounds of costs as formulas, such as `h <= 2*(p - 1)*n/p + 8`: how they are read, and what they come to."""
+"""Bounds of costs as formulas, such as `h <= 2*(p - 1)*n/p + 8`: parses them and computes their values."""
 
 from __future__ import annotations
 

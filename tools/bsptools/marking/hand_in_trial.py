@@ -1,4 +1,4 @@
-"""A hand-in is tried: compiled, and run on each case and number of nodes that a sheet asks for, with limits, in a folder of its own."""
+"""Tries a hand-in: compiles it, and runs it on each case and number of nodes of a sheet, with limits, in its own folder."""
 
 from __future__ import annotations
 

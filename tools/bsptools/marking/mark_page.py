@@ -1,4 +1,4 @@
-"""The marks of hand-ins as a page in one file: a table that is sorted by its columns, of which each row unfolds.
+"""The marks of hand-ins as a page in one file: a table that can be sorted by its columns, and whose rows unfold.
 
 What hand-ins print stands in it as text alone, and the page asks a browser to run and to load nothing but what it has itself.
 """

@@ -1,4 +1,4 @@
-"""What a hand-in is worth by a sheet, and the first thing that is wrong with it, in words."""
+"""The mark of a hand-in by a sheet, and its first mistake, in words."""
 
 from __future__ import annotations
 

@@ -1,4 +1,4 @@
-"""All hand-ins of a sheet: tried side by side, each by a process that can read nothing but what the sheet names, and marked."""
+"""Marks all hand-ins of a sheet, in parallel, each in a process that can read only what the sheet names."""
 
 from __future__ import annotations
 

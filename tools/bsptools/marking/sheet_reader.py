@@ -1,4 +1,4 @@
-"""The reader of sheets, which says line and column of what is wrong in one."""
+"""The reader of sheets, which reports a mistake with its line and column."""
 
 from __future__ import annotations
 

@@ -1,4 +1,4 @@
-"""What a program's library notes in a run, and the lines that say so at its end."""
+"""The notes that a program's library makes during a run, and the lines about them at its end."""
 
 from __future__ import annotations
 

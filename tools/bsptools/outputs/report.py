@@ -1,4 +1,4 @@
-"""The report behind a program's output, and what its supersteps cost."""
+"""The report after a program's output, and the costs of its supersteps."""
 
 from __future__ import annotations
 

@@ -1,4 +1,4 @@
-"""The files that a program writes, put together from its records and into a folder."""
+"""The files that a program writes, assembled from its records and put into a folder."""
 
 from __future__ import annotations
 

@@ -1,4 +1,4 @@
-"""The table of a sweep along any of its columns: what is on each axis, which points make a line, and what does not fit."""
+"""The table of a sweep along any of its columns: the axes, which points form a line, and what does not fit."""
 
 from __future__ import annotations
 

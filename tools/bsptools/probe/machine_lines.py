@@ -1,4 +1,4 @@
-"""Lines of the machines' file, of what was measured."""
+"""Lines for a file of machines, from measurements."""
 
 from __future__ import annotations
 

@@ -1,4 +1,4 @@
-"""The lines that say who wrote bytes, and what was asked for in a superstep."""
+"""The lines that say who wrote bytes, and what was requested in a superstep."""
 
 from __future__ import annotations
 

@@ -1,4 +1,4 @@
-"""The tables of `--lines`: work by line and by function, and where h comes from; and its files."""
+"""The tables and files of `--lines`: work by line and by function, and the source of h."""
 
 from __future__ import annotations
 

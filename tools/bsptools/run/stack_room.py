@@ -1,4 +1,4 @@
-"""The room of the stack that suffices for a program whose stack was too deep: it is built with more, and what it uses of that is measured."""
+"""Finds how much stack a program needs after a stack overflow: builds it with more, and measures its use."""
 
 from __future__ import annotations
 

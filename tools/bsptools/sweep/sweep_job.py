@@ -1,4 +1,4 @@
-"""One run of a sweep, on whichever host it is made."""
+"""One run of a sweep, on any host."""
 
 from __future__ import annotations
 

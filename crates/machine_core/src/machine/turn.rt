@@ -1,4 +1,4 @@
-//! The turn, at once or in two halves, between which the nodes are prepared for the parts of their exchange, and these land.
+//! The turn, at once or in two halves. Between the halves, the nodes are prepared for the parts of their exchange, and the parts land.
 
 ghost use Rattle.std.specs.Prelude.{◌≡◌, true};
 ghost use Rattle.machine_core.specs.declared.event.Event.TheVariants.{Turn as the_turn};

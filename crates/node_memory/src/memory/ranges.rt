@@ -1,4 +1,4 @@
-//! What is read by ranges, page by page.
+//! Reads of ranges, page by page.
 
 ghost use Rattle.std.specs.Prelude.{◌≡◌, ◌≤◌, ◌++◌, IsTrue, length, take, OnOk, OnErr, IfOk, IfSome};
 ghost use Rattle.node_memory.specs.Access.{IsRead};

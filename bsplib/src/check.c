@@ -293,7 +293,7 @@ void __ubsan_handle_type_mismatch_v1_abort(const struct pointed *at, value addre
     else {
         add("address 0x");
         add_number(address, 16);
-        add(" is used, and is no multiple of ");
+        add(" is used, and is not a multiple of ");
         add_number(1u << at->alignment, 10);
         add(" as that of ");
     }
@@ -313,7 +313,7 @@ void __ubsan_handle_vla_bound_not_positive_abort(const struct typed *at, value b
 void __ubsan_handle_builtin_unreachable(const struct typed *at)
 {
     begin(&at->place);
-    add("the program comes to where it says that it never does");
+    add("the program reached a place that it declares unreachable");
     end();
 }
 

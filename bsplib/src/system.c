@@ -201,9 +201,9 @@ void bsp_stop_for_null(const char *function)
 {
     begin_line();
     put_text(function);
-    put_text(" is given NULL in the place of a text");
+    put_text(" was called with NULL instead of a string");
     if (argument_count == 1)
-        put_text(", as argv[1] is, since the program has no arguments: they stand behind its name, as in bsprun PROGRAM 100");
+        put_text(": argv[1] is NULL, because the program got no arguments. Give them after its name, as in bsprun PROGRAM 100");
     end_line();
 }
 

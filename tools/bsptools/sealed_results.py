@@ -21,7 +21,7 @@ from .limits import MOST_TABLE
 from .refusals import Refused, counted
 
 KEY_BYTES, KEY_MODE, OF_OTHERS = 32, 0o600, 0o077
-UNKEPT = "no key can be kept for your results, so that the next start makes them again: set HOME or XDG_STATE_HOME to a folder of yours"
+UNKEPT = "cannot save a key for your results, so the next start will repeat their runs: set HOME or XDG_STATE_HOME to a folder of yours"
 
 
 class Key(NamedTuple):
@@ -122,4 +122,4 @@ def keep(path: str | os.PathLike[str], with_ticket: str, record: Any) -> None:
 def told_of_others(count: int, folder: str | os.PathLike[str]) -> list[str]:
     """A line where so many results are not believed."""
     was = "was" if count == 1 else "were"
-    return [f"{counted(count, 'result')} in {os.fspath(folder)} {was} not kept with your key, and {was} made again"] * bool(count)
+    return [f"{counted(count, 'result')} in {os.fspath(folder)} {was} not sealed with your key, and {was} made again"] * bool(count)

@@ -333,7 +333,7 @@ def forged(check: Check) -> None:
     record = json.loads(path.read_text())["record"]
     sealed_results.keep(path, "0123456789abcdef:ticket", {**record, "costs": {**record["costs"], "w": 5}})
     done = check.tool("bspsweep", *words)
-    told = "bspsweep: 1 result in forged was not kept with your key, and was made again\n"
+    told = "bspsweep: 1 result in forged was not sealed with your key, and was made again\n"
     check.expect("a forged result", done.stdout == text and done.stderr.startswith(told), done)
     check.expect("no ticket is left", not list(path.parent.glob("*.ticket")), list(path.parent.iterdir()))
     homeless = {"HOME": None, "XDG_STATE_HOME": None}
@@ -392,7 +392,7 @@ def machines(check: Check) -> None:
     wanted = {("t3e (linear)", 2): ("3.5", "486"), ("t3e (linear)", 3): ("3.6875", "582.5")}
     check.expect("between two sizes of a machine, and named", found == wanted, done.stdout + done.stderr)
     refused = {
-        ("t3e-8,no",): "'no' is no machine that is known: t3e-2, t3e-4",
+        ("t3e-8,no",): "'no' is not a known machine; these are: t3e-2, t3e-4",
         ("t3e", "-n", "2,3"): "t3e has no prices on 3 nodes; it has them on 2, 4, 8, 16, 32, 64: give such numbers by --nodes, or add --interpolate linear",
         ("t3e", "-n", "1,2", "--interpolate", "linear"): "t3e has no prices on 1 node; it has them on 2, 4, 8, 16, 32, 64",
         ("t3e-8", "-n", "4"): "t3e-8 has no prices on 4 nodes; it has them on 8: give such numbers by --nodes, or add a line",

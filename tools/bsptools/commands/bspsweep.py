@@ -58,7 +58,7 @@ def constant(text: str) -> tuple[str, list[str]]:
     """A constant and its values, as `N=100,1000`."""
     name, values = pair(text, "a constant as NAME=VALUE,VALUE,..")
     if not name.isidentifier():
-        raise argparse.ArgumentTypeError(f"{text!r}: {name!r} is no name of a constant")
+        raise argparse.ArgumentTypeError(f"{text!r}: {name!r} is not the name of a constant")
     return name, list(dict.fromkeys(values.split(",")))
 
 

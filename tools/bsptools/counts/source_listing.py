@@ -169,7 +169,7 @@ def of_json(content: Mapping[str, Any]) -> Listing:
     lines = [line_of(it) for it in content["lines"]]
     outcome = str(content["outcome"])
     if not OUTCOME.match(outcome.encode(errors="replace")) or "\n" in outcome:
-        raise Unfit(f"{outcome!r} is no outcome")
+        raise Unfit(f"{outcome!r} is not an outcome")
     return Listing(printable(str(content["program"])), supersteps, outcome, files, lines)
 
 
@@ -202,7 +202,7 @@ def checked(it: Listing) -> Listing:
             raise Unfit(f"the printing of superstep {number} is not that of its ranks")
     for line in it.lines:
         if not -1 <= line.file < len(it.files) or (line.file >= 0) != (line.number > 0) or len(line.ranks) != it.nodes:
-            raise Unfit(f"{line.function}: it is no line of a file that there is")
+            raise Unfit(f"{line.function}: it is not a line of a known file")
         if sum(line.supersteps.values()) != line.folded:
             raise Unfit(f"{line.function}: its supersteps do not come to its sum")
         for number, count in line.supersteps.items():

@@ -77,7 +77,7 @@ class Dialogue:
             return True
         if self._session.room < RESERVE:
             self._return_to(self._place())
-            put("nothing is kept any more: a new process goes on from here\n" if self._is_kept else "")
+            put("the kept states are lost: a new process continues from here\n" if self._is_kept else "")
             self._is_kept = False
         try:
             asked = self._lines.parsed(line, self._ranks, self._address)
@@ -116,7 +116,7 @@ class Dialogue:
         before = self._place() if asked.verb in LONG else None
         reply = self._wait(spelled, before)
         if reply is None:
-            put("broken off: all stands where it stood" + (", and nothing is kept any more\n" if self._is_kept else "\n"))
+            put("interrupted: nothing has changed" + (", and the kept states are lost\n" if self._is_kept else "\n"))
             self._is_kept = False
             return
         if not reply.is_done:
@@ -184,10 +184,10 @@ class Dialogue:
         texts = {
             RefusalCode.BAD_RANK: ranks_of(self._ranks),
             RefusalCode.BAD_RANGE: "there is not so much yet; without a number all is shown",
-            RefusalCode.NO_FLOAT_UNIT: "the program does not say that it wants one; bspgdb --float gives it to nodes",
-            RefusalCode.TOO_MANY: f"{MOST_POINTS:,} points are set; clear takes one away",
-            RefusalCode.NO_SUCH_BREAK: "points tells which are set",
-            RefusalCode.NO_SUCH_KEPT: "kept tells which are",
+            RefusalCode.NO_FLOAT_UNIT: "the program does not use floating point; bspgdb --float gives nodes a unit",
+            RefusalCode.TOO_MANY: f"{MOST_POINTS:,} points are set, the limit; clear removes one",
+            RefusalCode.NO_SUCH_BREAK: "points lists those that are set",
+            RefusalCode.NO_SUCH_KEPT: "kept lists them",
             RefusalCode.BAD_COMMAND: "this emulator has no such line",
         }
         return texts.get(code, "")
@@ -274,8 +274,8 @@ class Dialogue:
         addr = asked.operands.setdefault("ADDR", node.pc)
         if addr % 2:
             count = asked.operands.get("N", addr)
-            what = f"instructions stand at even addresses, and {addr:#x} is odd"
-            raise Denied(RefusalCode.BAD_COMMAND, f"{what}; {count} of them from where the rank stands are list {node.rank} $pc {count}")
+            what = f"instructions are at even addresses, and {addr:#x} is odd"
+            raise Denied(RefusalCode.BAD_COMMAND, f"{what}; {count} of them from the pc of the rank on: list {node.rank} $pc {count}")
         yield from named_views.instructions(self.names, asked.operands["ADDR"], self._shown(asked, 4), asked.how_many, node.pc)
 
     def _where(self, asked: Asked) -> Iterator[str]:

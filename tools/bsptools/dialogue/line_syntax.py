@@ -26,7 +26,7 @@ ADDED = {"fregs": "[NAME]"}
 DEFAULTS = {"bytes": 16, "words": 8, "list": 8, "wrote": 4}
 # What is told of some lines besides.
 MORE = {
-    "list": f"; without ADDR from where the rank stands, without N {DEFAULTS['list']}",
+    "list": f"; without ADDR from the pc of the rank on, without N {DEFAULTS['list']}",
     "bytes": f"; without LEN {DEFAULTS['bytes']}",
     "words": f"; without N {DEFAULTS['words']}",
     "wrote": f"; without N {DEFAULTS['wrote']}",
@@ -147,7 +147,7 @@ class Lines:
     def _meant(self, verb: str) -> str:
         """What says which line is meant by a word that none begins with, if that is known."""
         if verb in IN_GDB:
-            return f"; what gdb does by that is done by {IN_GDB[verb]}"
+            return f"; instead of gdb's command, use {IN_GDB[verb]}"
         # Only what is mistyped wants it.
         import difflib
 
@@ -210,7 +210,7 @@ def _matched(usage: Sequence[str], words: Sequence[str], ranks: int, address: Re
             except Refused as refused:
                 raise Mismatch(str(refused), count) from refused
     if rest:
-        raise Mismatch(f"{printable(rest[0])} is a word too many", len(usage))
+        raise Mismatch(f"{printable(rest[0])} is one word too many", len(usage))
     return operands, small
 
 

@@ -59,7 +59,7 @@ SCARCE = re.compile(r"(?:File size|CPU time) limit exceeded|out of memory alloca
 NO_MEMORY = 5
 LACKS = (errno.ENOSPC, errno.EDQUOT, errno.ENOMEM, errno.EAGAIN, errno.EMFILE, errno.ENFILE)
 SLOW = "the compiler took too long"
-UNTRIED = "not portable: it does not end well where it is compiled for this trial, with the same constants, input and arguments"
+UNTRIED = "not portable: it fails if it is compiled for this trial, with the same constants, input and arguments"
 SAFE = re.compile(r"[A-Za-z_][\w.-]{0,80}\.(?:c|cc|cpp|cxx)", re.ASCII)
 COMMENTS = re.compile(r"//[^\n]*|/\*.*?\*/|\"(?:\\.|[^\"\\\n])*\"|'(?:\\.|[^'\\\n])*'", re.DOTALL)
 
@@ -277,7 +277,7 @@ class Trial:
 
     def lacks(self, search: str) -> None:
         """Takes note that a search came to no end: a hand-in is not right for want of it."""
-        self.found.lack = f"{search} came to no end in {self.patience} s, or in the memory that there is; more seconds in the sheet give it longer"
+        self.found.lack = f"{search} did not end in {self.patience} s, or ran out of memory; `seconds` in the sheet gives it longer"
 
     def race(self, job: Job, report: Report) -> List[str]:
         """What two requests of a superstep bring to the same bytes, if they do."""
@@ -291,7 +291,7 @@ class Trial:
         with patient():
             job.code.know_names()
             return told_contested(Tracer(job.code, job.replays()), found.first, found.places - 1)
-        return [f"superstep {found.first.superstep}, rank {found.first.rank}: two requests write other bytes to one place"]
+        return [f"superstep {found.first.superstep}, rank {found.first.rank}: two requests write different bytes to the same place"]
 
     def exceeded(self, run: RunPlan, ended: Ended) -> List[str]:
         """The costs of bounds that are not kept."""
@@ -359,11 +359,11 @@ def compiler_environment(folder: pathlib.Path) -> Mapping[str, str]:
 def refusal(text: bytes) -> str:
     """Why a hand-in is no program, if it is none."""
     if len(text) > MOST_TEXT:
-        return f"the file has more than {MOST_TEXT} bytes, which no program of a sheet has"
+        return f"the file has more than {MOST_TEXT} bytes, the limit for a program"
     if not COMMENTS.sub("", text.decode(errors="replace")).strip():
         return "the file is empty"
     if b"\0" in text:
-        return "the file is no text: hand in the program's source"
+        return "the file is not text: hand in the program's source"
     return ""
 
 

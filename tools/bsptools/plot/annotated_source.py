@@ -28,7 +28,7 @@ SOURCE = (
     " superstep, the darker the more of that superstep's w is made there. What several lines call is apportioned by numbers of calls. The"
     " pointer on a number, a bar or a field shows more."
 )
-FUNCTIONS = "Functions without lines here, as a library's, the dearest first: what they cost by themselves, and their share of w."
+FUNCTIONS = "Functions without lines here, as a library's, the most expensive first: what they cost by themselves, and their share of w."
 
 
 def groups(count: int, most: int) -> list[range]:

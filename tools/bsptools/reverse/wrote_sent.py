@@ -134,7 +134,7 @@ class PastTeller:
         head = f"superstep {superstep}: {counted(len(made), 'request')}{whose}{' so far' if is_now else ''}"
         most = MOST_SENT if rank is None else len(made)
         more = len(made) - most
-        rest = [f"and {more} more, from rank {made[most].rank} on: {self._verb} {superstep} from R tells all of rank R"] if more > 0 else []
+        rest = [f"and {more} more, from rank {made[most].rank} on: {self._verb} {superstep} from R shows all of rank R"] if more > 0 else []
         return [head, *map(self._request, made[:most]), *rest]
 
     def _request(self, made: Made) -> str:

@@ -16,7 +16,7 @@ from .refusals import Refused, Unfit, about
 MOST_LINKS = 40
 # Of a file that the tools run or trust later. Who else may read it is up to its user's umask.
 OWN_MODE = 0o644
-GONE = "the folder that this was started in is gone"
+GONE = "the current folder no longer exists"
 
 
 class Folder(NamedTuple):

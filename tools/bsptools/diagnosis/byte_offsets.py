@@ -317,7 +317,7 @@ def scaled(looker: Looker, used: Used, work: dict[int, int]) -> str:
     if looked is None or looked.area is None or (known is not None and known.size != size):
         return ""
     begin = f"rank {call.node.rank}, superstep {call.superstep}: offset {offset} of {name} at {looked.place}"
-    what = f"{looked.area.name}[{offset}], which is {inside} bytes behind the beginning of {looked.area.name}"
+    what = f"{looked.area.name}[{offset}], which is {inside} bytes after the beginning of {looked.area.name}"
     advice = "offsets count bytes, so if you mean that, multiply by"
     return f"{begin} looks like the index of {what}: {advice} sizeof({known.name or 'it' if known is not None else 'it'})"
 

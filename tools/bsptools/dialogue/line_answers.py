@@ -94,7 +94,7 @@ class Dialogue:
         except Refused as refused:
             _tell(f"refused: {refused.args[0]}", *refused.args[1:])
         except Interrupted:
-            put("broken off\n")
+            put("interrupted\n")
         return True
 
     def completing(self, words: List[str]) -> List[str]:
@@ -163,7 +163,7 @@ class Dialogue:
             return
         self._is_told = True
         lines = list(self._where(Asked("where", {}, [])))
-        _tell(*lines[:MOST_PLACES], *([f"and {len(lines) - MOST_PLACES} ranks more: where"] if len(lines) > MOST_PLACES else []))
+        _tell(*lines[:MOST_PLACES], *([f"and {len(lines) - MOST_PLACES} more ranks: type where"] if len(lines) > MOST_PLACES else []))
         _tell(*self._extension_wanted(rank_of(line, 0)))
 
     def _extension_wanted(self, rank: int) -> List[str]:
@@ -249,7 +249,7 @@ class Dialogue:
     def _shown(self, asked: Asked, unit: int) -> bytes:
         """The memory that a line asks for, in units of so many bytes."""
         if asked.how_many * unit > MOST_SHOWN:
-            raise Denied(RefusalCode.BAD_RANGE, f"{MOST_SHOWN // unit} are the most that are shown at once")
+            raise Denied(RefusalCode.BAD_RANGE, f"at most {MOST_SHOWN // unit} are shown at once")
         return self._memory(asked.operands["RANK"], asked.operands["ADDR"], asked.how_many * unit)
 
     def _end(self, asked: Asked, unit: int) -> Iterator[str]:

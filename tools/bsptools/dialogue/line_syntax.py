@@ -61,7 +61,7 @@ IN_GDB = {
     "s": "step",
     "si": "step",
     "stepi": "step",
-    "thread": "where, and each line is told the rank",
+    "thread": "where, and give each line the rank",
     "x": "bytes, words, text or list",
 }
 MOST = (1 << 64) - 1

@@ -67,7 +67,7 @@ class Formula:
         for side in self.sides:
             _check(side)
         if SOLUTION in _names(self.sides[0]):
-            raise Wrong(f"{SOLUTION} belongs on the right side: it is what the left side comes to in the solution's run", whole.left.col_offset)
+            raise Wrong(f"{SOLUTION} belongs on the right side: it is the value of the left side in the solution's run", whole.left.col_offset)
 
     @property
     def is_floor(self) -> bool:

@@ -162,7 +162,7 @@ class Trial:
         if ran.how != bounded_run.ENDED:
             said.insert(0, f"the compiler was ended after {COMPILER_SECONDS} s")
         elif not is_built and not said:
-            said.append(f"the compiler ended with status {ran.status}, as where memory ran out")
+            said.append(f"the compiler ended with status {ran.status}, perhaps because memory ran out")
         if number == 0 or not is_built:
             # Warnings and the files that were included come first, and may be many.
             first = 0 if is_built else next((at for at, it in enumerate(said) if ERRORS.search(it)), 0)
@@ -227,9 +227,9 @@ class Trial:
         words = [*job.program, "run", *job.settings, "--workers", "1", "--report", "--live"]
         ran = bounded_run.run(words, self.plan.seconds, run.output + MOST_REPORT, is_busy=True)
         if ran.how == bounded_run.ENDED and ran.status == -signal.SIGKILL:
-            self.found.lack = "the run was killed, as where memory ran out"
+            self.found.lack = "the run was killed, perhaps because memory ran out"
         if self.is_scarce and ran.how == bounded_run.ENDED and ran.status == NO_MEMORY:
-            self.found.lack = "memory ran out, of which this host lets a process have less than the sheet does"
+            self.found.lack = "memory ran out: this host gives a process less memory than the sheet allows"
         ended, report = self.ended(job, ran, run.output)
         if report is None:
             return ended

@@ -143,8 +143,8 @@ class Marker:
         """What was not looked at."""
         sheet = self.sheet
         of = [sheet.right / len(sheet.runs)] * len(sheet.runs)
-        found = [Check(f"output on {run}", 0, part, "", f"not looked at: {why}") for run, part in zip(sheet.runs, of)]
-        found += [Check(it.formula.text, 0, it.points, "", f"not looked at: {why}") for it in sheet.bounds]
+        found = [Check(f"output on {run}", 0, part, "", f"not checked: {why}") for run, part in zip(sheet.runs, of)]
+        found += [Check(it.formula.text, 0, it.points, "", f"not checked: {why}") for it in sheet.bounds]
         return [*found, *self.others(False)]
 
     # Runs.
@@ -239,7 +239,7 @@ class Marker:
         if sheet.portable:
             check = Check("portable", 0, sheet.portable_points, NOT_PORTABLE)
             if not are_right or self.evidence.portable is None:
-                check.fault, check.verdict = "not looked at: it is not right everywhere", ""
+                check.fault, check.verdict = "not checked: it is not right everywhere", ""
             elif not self.evidence.is_portable:
                 check.fault, check.more = portable_fault(self.evidence.portable), self.evidence.portable
             else:
@@ -249,7 +249,7 @@ class Marker:
             warnings = [it for it in self.evidence.said if ": warning: " in it]
             check = Check("no warnings", 0, sheet.warning_points, WARNED)
             if not are_right:
-                check.fault, check.verdict = "not looked at: it is not right everywhere", ""
+                check.fault, check.verdict = "not checked: it is not right everywhere", ""
             elif warnings:
                 check.fault, check.more = f"{counted(len(warnings), 'warning')}, the first: {plain(warnings[0])}", warnings
             else:

@@ -26,7 +26,7 @@ TIMELINE = (
 )
 COSTS = "Each superstep costs w + g·h + l ticks. The greatest of the three parts is the one to make smaller."
 LINES = (
-    "What the most expensive lines cost, in steps of the slowest ranks, of which w is made: by themselves (blue), which is exact, and with the"
+    "What the most expensive lines cost, in steps of the slowest ranks, which add up to w: by themselves (blue), which is exact, and with the"
     " library functions that they call (grey), whose work is apportioned by numbers of calls where several lines called them."
 )
 MATRIX = (
@@ -40,7 +40,7 @@ SWEEP = (
     " far as from 2 to 4."
 )
 COMPARE = (
-    "The same totals, on logarithmic axes: equal steps are equal factors. A dotted line stands at the first number of nodes at which a"
+    "The same totals, on logarithmic axes: equal steps are equal factors. A dotted line marks the first number of nodes at which a"
     " program costs less than another one that was cheaper on fewer."
 )
 

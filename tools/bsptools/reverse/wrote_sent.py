@@ -80,7 +80,7 @@ class PastTeller:
             return "never written: as the image has it" if self._is_in_image(addr) else "never written: 0 from the start"
         return (
             f"not written in the last {counted(found.instructions, 'instruction')} of rank {rank}, back into superstep {found.superstep};"
-            f" what was before is not looked at: {self._advice(rank, found.superstep, found.into)}"
+            f" what was before is not checked: {self._advice(rank, found.superstep, found.into)}"
         )
 
     def _is_in_image(self, addr: int) -> bool:

@@ -34,8 +34,8 @@ MORE = {
     "quit": "; so do exit, q and Ctrl-D",
 }
 OPERANDS = (
-    "RANK, K, N, LEN, COUNT and FROM are numbers. ADDR is a number, a name of the program, or a register, as $sp or $a0, and behind each"
-    " may be +N, as table+4."
+    "RANK, K, N, LEN, COUNT and FROM are numbers. ADDR is a number, a name of the program, or a register, as $sp or $a0."
+    " +N may follow each, as in table+4."
 )
 # Words that other debuggers have for some of them.
 ALSO = {"exit": "quit", "q": "quit", "?": "help"}

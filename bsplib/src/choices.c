@@ -1,4 +1,4 @@
-/* What BSPlib and C leave open, chosen in a program of bspcc --portable. The linker has that call the functions of this file in the
+/* With bspcc --portable: makes the choices that BSPlib and C leave open. The linker has that call the functions of this file in the
    place of those that they are named after (--wrap). bsprun writes the choices into the program's image, behind their magic. */
 #include "bsp.h"
 #include "machine.h"

@@ -104,7 +104,7 @@ def files(chance: random.Random, made: Line, parts: List[List[Word]]) -> None:
 
 
 def refusal_of(made: Line) -> str:
-    """The line on standard error that is due, without its first word and colon; empty where nothing is refused."""
+    """The line on standard error that is due, without its first word and colon; empty if nothing is refused."""
     if IMAGES[made.image].startswith("cannot"):
         return IMAGES[made.image]
     if made.input in ("absent", "-"):

@@ -57,7 +57,7 @@ def parser() -> Parser:
 
 
 def main(words: list[str]) -> int:
-    """Marks hand-ins; the status is 0 where all are right, and 1 where one is not."""
+    """Marks hand-ins; the status is 0 if all are right, and 1 if one is not."""
     try:
         return checked(parser().parse_args(words))
     except Refused as refused:

@@ -299,7 +299,7 @@ class Marking:
     # Checkers.
 
     def judged(self, found: Sequence[Evidence]) -> List[Optional[List[Judgement]]]:
-        """What the sheet's checker says of each run of each hand-in; None where there is no checker."""
+        """What the sheet's checker says of each run of each hand-in; None if there is no checker."""
         answers: List[Optional[List[Judgement]]] = [None] * len(found)
         if not self.sheet.checker:
             return answers
@@ -382,7 +382,7 @@ class Marking:
 
 
 def cache_at(folder: pathlib.Path) -> str:
-    """The folder of the user's in which bspcc keeps its library, or one for a while where there is none: to build it for each hand-in would
+    """The folder of the user's in which bspcc keeps its library, or one for a while if there is none: to build it for each hand-in would
     take longer than all else."""
     kept = own_folders.cache("bspcc")
     return os.path.dirname(kept) if kept and os.access(kept, os.W_OK) else str(folder / "cache")
@@ -395,7 +395,7 @@ class Progress:
         self.count, self.done, self.told = count, 0, -1
 
     def show(self) -> None:
-        """Shows it, where there are several."""
+        """Shows it, if there are several."""
         if self.count > 1 and self.done != self.told:
             self.told = self.done
             show(f"bspcheck: {self.done} of {counted(self.count, 'hand-in')} tried")

@@ -74,7 +74,7 @@ def which() -> str:
 
 
 def heard(*words: str) -> tuple[str, list[str]]:
-    """What a program writes on standard output, without the last line feed, and its lines on standard error; a refusal where it fails."""
+    """What a program writes on standard output, without the last line feed, and its lines on standard error; a refusal if it fails."""
     try:
         done = subprocess.run(words, stdin=subprocess.DEVNULL, capture_output=True, check=False)
     except OSError as error:
@@ -91,7 +91,7 @@ def said(*words: str) -> str:
 
 
 def version(name: str) -> list[str]:
-    """Lines that say what a tool is, of which commit where that is known, and which emulator it starts, or why there is none."""
+    """Lines that say what a tool is, of which commit if that is known, and which emulator it starts, or why there is none."""
     commit = ""
     with contextlib.suppress(Refused, OSError):
         is_checkout = (REPO / ".git").exists()

@@ -181,7 +181,7 @@ class Trial:
         return [emulator.program("bspcc"), *options, *warnings, "-fdiagnostics-color=never", *constants, self.name]
 
     def find_calls(self) -> None:
-        """Which of the calls that the sheet speaks of the hand-in's own code names, each with its line, or 0 where the text does not have it."""
+        """Which of the calls that the sheet speaks of the hand-in's own code names, each with its line, or 0 if the text does not have it."""
         target = self.folder / "calls.o"
         defines = self.plan.runs[0].defines if self.plan.runs else ()
         bounded_run.run(self.compiler(defines, "-c", "-o", target.name), COMPILER_SECONDS, MOST_COMPILED, compiler_environment(self.folder))
@@ -244,7 +244,7 @@ class Trial:
         return ended
 
     def ended(self, job: Job, ran: Ran, most: int) -> Tuple[Ended, Optional[Report]]:
-        """What a run came to, and its report where it has one."""
+        """What a run came to, and its report if it has one."""
         marks = Marks(job.mark)
         pieces = list(marks.take(ran.output))
         whole = b"".join(it for kind, it in pieces if kind == OUTPUT) + marks.left()

@@ -226,7 +226,9 @@ def end(child: subprocess.Popen[bytes], by: int = signal.SIGKILL) -> None:
             with contextlib.suppress(subprocess.TimeoutExpired):
                 child.wait(patience(PATIENCE))
     child.wait()
-    _running[:] = [it for it in _running if it is not child]
+    # Threads may end others meanwhile.
+    with contextlib.suppress(ValueError):
+        _running.remove(child)
     for stream in (child.stdin, child.stdout, child.stderr):
         with contextlib.suppress(BrokenPipeError):
             if stream is not None:

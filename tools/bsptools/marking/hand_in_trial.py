@@ -25,7 +25,7 @@ from ..framed.environment_calls import Tracer
 from ..outputs import contested_bytes
 from ..outputs.output_demux import ERROR, OUTPUT, Marks
 from ..outputs.report import Report, part
-from ..portable.portability import TRIES, verdict
+from ..portable.portability import TRIES, Builds, verdict
 from ..portable.portability_findings import told_contested
 from ..prepare.job import Job, prepared
 from ..program import elf
@@ -330,7 +330,8 @@ class Trial:
         self.found.portable, self.found.is_portable = [], False
         with patient(self.patience):
             job = self.job(run, pathlib.Path(self.name), "portable")
-            found = verdict(job, self.folder / "portable")
+            with Builds(job.options, self.folder / "portable") as builds:
+                found = verdict(job, self.folder / "portable", builds)
             self.found.portable = [it.replace("bsprun: ", "", 1) for it in found.lines()] if found else [UNTRIED]
             self.found.is_portable = found is not None and not found.found
             return

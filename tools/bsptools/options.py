@@ -177,7 +177,7 @@ class Parser(argparse.ArgumentParser):
 def named(text: str) -> str:
     """A name of a file or folder."""
     if not text or "\0" in text:
-        raise argparse.ArgumentTypeError(f"{text!r} is no name of a file or folder")
+        raise argparse.ArgumentTypeError(f"{text!r} is not the name of a file or folder")
     return text
 
 

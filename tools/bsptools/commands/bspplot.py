@@ -51,7 +51,7 @@ def heading(text: str) -> str:
     """A text above a picture, which matplotlib draws letter by letter: ten thousand take a second."""
     shown = printable(text)
     if len(shown) > MOST_LETTERS:
-        raise argparse.ArgumentTypeError(f"this text has {len(shown)} letters, and {MOST_LETTERS} are the most")
+        raise argparse.ArgumentTypeError(f"this text has {len(shown)} letters; the limit is {MOST_LETTERS}")
     return shown
 
 

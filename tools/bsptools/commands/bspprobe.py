@@ -59,7 +59,7 @@ def parser() -> Parser:
 def name(text: str) -> str:
     """A name of a machine."""
     if not text or machine_lines.UNFIT.search(text):
-        raise argparse.ArgumentTypeError(f"{text!r} is no name of a machine: letters, digits and _ . + - make one")
+        raise argparse.ArgumentTypeError(f"{text!r} is not the name of a machine, which has only letters, digits and _ . + -")
     return text
 
 

@@ -150,7 +150,7 @@ def deliver(job: Job, done: Done) -> int:
     found, options = done.report, job.options
     if done.status < 0:
         why = signal.strsignal(-done.status) or f"signal {-done.status}"
-        why += ", as by a host that has no memory left" if -done.status == signal.SIGKILL else ""
+        why += ", perhaps because the host ran out of memory" if -done.status == signal.SIGKILL else ""
         tell([f"bsprun: the emulator was ended after {done.seconds:.1f} s: {why}"])
         return BY_SIGNAL - done.status
     if found is None:

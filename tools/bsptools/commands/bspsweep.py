@@ -50,7 +50,7 @@ def hosts(text: str) -> tuple[str, ...]:
     found = tuple(text.split(","))
     for it in found:
         if HOST.fullmatch(it) is None:
-            raise argparse.ArgumentTypeError(f"{it!r} is no name of a host, as one, user@one.example or 4/one for 4 runs at a time; : is this one")
+            raise argparse.ArgumentTypeError(f"{it!r} is not the name of a host, such as one, user@one.example, or 4/one for 4 runs at a time; : is this host")
     return found
 
 
@@ -58,7 +58,7 @@ def constant(text: str) -> tuple[str, list[str]]:
     """A constant and its values, as `N=100,1000`."""
     name, values = pair(text, "a constant as NAME=VALUE,VALUE,..")
     if not name.isidentifier():
-        raise argparse.ArgumentTypeError(f"{text!r}: {name!r} is no name of a constant")
+        raise argparse.ArgumentTypeError(f"{text!r}: {name!r} is not the name of a constant")
     return name, list(dict.fromkeys(values.split(",")))
 
 
@@ -241,7 +241,7 @@ def sweep(options: argparse.Namespace, words: list[str], before: table_record.Re
     tell([*unkept, *sealed_results.told_of_others(of_others, options.folder)], "bspsweep: ")
     known = len(whole.places) - len(missing)
     if known:
-        tell([f"{known} of {counted(len(whole.places), 'run')} {'was' if known == 1 else 'were'} made before"], "bspsweep: ")
+        tell([f"{known} of {counted(len(whole.places), 'run')} {'was' if known == 1 else 'were'} cached"], "bspsweep: ")
     if missing:
         try:
             whole.make(engine, missing, MAIN)

@@ -79,7 +79,7 @@ class Meter:
 
 
 def part_of(place: pathlib.Path) -> Optional[Part]:
-    """Which crate a process of the prover works on, and for which part, or None where it is of no run of this gate."""
+    """Which crate a process of the prover works on, and for which part, or None if it is of no run of this gate."""
     if f"{MARK}={os.getpid()}".encode() not in (place / "environ").read_bytes().split(b"\0"):
         return None
     words = [it.decode(errors="replace") for it in (place / "cmdline").read_bytes().split(b"\0")]

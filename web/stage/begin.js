@@ -142,7 +142,10 @@ function connect() {
   };
   connectStage();
   document.addEventListener("keydown", onKey);
-  addEventListener("resize", () => moves?.seen && moves.arrowsAgain());
+  addEventListener("resize", () => {
+    moves?.seen && costs.draw();
+    moves?.seen && moves.arrowsAgain();
+  });
   addEventListener("beforeprint", beforePrint);
   addEventListener("afterprint", afterPrint);
   addEventListener("hashchange", () => follow(location.hash.slice(1)));

@@ -186,6 +186,7 @@ def deliver(job: Job, done: Done) -> int:
         tell_of(job, found, parser(), is_chosen=chosen is not None, are_offsets_told=is_told, digest=done.digest)
     # A program may end with a status of its own.
     options.is_tried = found.outcome == "ended" or found.outcome.endswith("stopped: aborted")
+    options.work = sum(it.costs["w"] for it in found.supersteps)
     if options.portable and not options.is_tried:
         tell(["bsprun: not tried: other choices, because the run itself fails"])
     status = done.status if chosen is None else chosen.status
@@ -279,17 +280,29 @@ def main(words: list[str]) -> int:
         with about(options.out):
             os.mkdir(options.out)
     options.folder = None if options.out is None else files.Folder.of(options.out)
-    with children.folder("bsprun") as folder, contextlib.closing(Beside(folder)) as beside:
+    with contextlib.ExitStack() as over:
+        folder = over.enter_context(children.folder("bsprun"))
+        beside = over.enter_context(contextlib.closing(Beside(folder)))
         if options.page is not None:
             return write_page(options, folder, words)
-        job = prepared(options, folder, "bsprun", is_marked=True, beside=beside.build)
+        begin = beside.build
+        if options.portable:
+            from ..portable.portability import Builds, is_portable
+
+            builds = over.enter_context(Builds(options, folder))
+
+            def begin(asked: argparse.Namespace, content: bytes) -> None:
+                """Begins the builds that go beside the program's own."""
+                beside.build(asked, content)
+                if not content:
+                    builds.begin()
+
+        job = prepared(options, folder, "bsprun", is_marked=True, beside=begin)
         if options.order is not None:
             from ..portable.orders import with_order
 
             job = with_order(job, folder)
         status = run(job, beside, folder, Repeated())
         if options.portable and (status == 0 or getattr(options, "is_tried", False)):
-            from ..portable.portability import is_portable
-
-            return status if is_portable(job, folder, options.accepted) else OTHERWISE
+            return status if is_portable(job, folder, builds, options.accepted) else OTHERWISE
         return status

@@ -152,11 +152,13 @@ def _expect_own_link(path: str | os.PathLike[str]) -> None:
 
 
 def _keep_mode(path: str, new: int) -> None:
-    """Gives a new file the rights of the one whose place it takes, if that is this user's too: another one would choose who may write it."""
+    """Gives a new file the rights of the one whose place it takes, if that is this user's too: another one would choose who may write it.
+    Rights that are right already are left alone: a file system without rights, such as a USB stick's, refuses to set any."""
     with contextlib.suppress(FileNotFoundError):
         found = os.stat(path)
-        if found.st_uid == os.geteuid():
-            os.fchmod(new, stat.S_IMODE(found.st_mode) & 0o777)
+        wanted = stat.S_IMODE(found.st_mode) & 0o777
+        if found.st_uid == os.geteuid() and stat.S_IMODE(os.fstat(new).st_mode) != wanted:
+            os.fchmod(new, wanted)
 
 
 def beside_name() -> str:

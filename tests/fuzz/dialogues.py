@@ -19,7 +19,7 @@ KEPT = 1 << 11
 # and in a dialogue, which tells more.
 MARK = b"what-was-written-ends-here"
 MARKED = b"\nrefused: BadCommand"
-NO_LINE = b": there is no such line; help tells the lines"
+NO_LINE = b": there is no such line; help lists the lines"
 STATES = ("running", "synced", "ended", "aborted", "exhausted")
 FIRST = re.compile(
     f"rank [0-9]+ pc [0-9a-f]{{8}} ticks [0-9]+ state (?:{'|'.join(STATES)}|fault {one_of(FAULTS_OF_STEPS)})".encode()
@@ -180,7 +180,7 @@ class Judge:
         """Where the nodes of the lowest ranks are, and how many more there are."""
         nodes = self.machine.nodes
         places = [self.take(PLACE) for _ in range(min(nodes, PLACES))]
-        more = nodes <= PLACES or self.take(b"and %d more: where tells all" % (nodes - PLACES)) is not None
+        more = nodes <= PLACES or self.take(b"and %d more: where shows all" % (nodes - PLACES)) is not None
         return more and [place and int(place[1]) for place in places] == list(range(len(places)))
 
     def judge(self, line: bytes) -> None:

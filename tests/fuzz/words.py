@@ -110,7 +110,7 @@ def refusal_of(made: Line) -> str:
     if made.input in ("absent", "-"):
         return f"cannot open {made.input}"
     if made.is_large and made.tells == "profile" and int(made.values.get("nodes", "1")) > 1024:
-        return "a profile is of at most 1024 nodes"
+        return "cannot write a profile of more than 1024 nodes; use fewer nodes, or no --profile"
     if made.beside in ("folder", "absent/profile") or is_read(made):
         return f"cannot open {made.beside}"
     for name in ORDER:

@@ -210,8 +210,8 @@ def compared(look: Look, session: Session, formats: Formats, memory: int = 1 << 
         is_value = form and box["address"] is not None and not box["cells"][0][2].startswith(("→", "0x", "NULL"))
         for at, size, text in box["cells"] if is_value else ():
             content = session.memory(box["rank"], box["address"] + at, size, memory)
-            if text.endswith(("more", "all 0")):
-                if text.endswith("all 0") and any(content):
+            if text.endswith(("more", "× 0")):
+                if text.endswith("× 0") and any(content):
                     return count, f"{box['name']} of rank {box['rank']} is not {text}"
             elif not is_right(text, content, form or ""):
                 return count, f"{box['name']} of rank {box['rank']} at {at} shows {text}, and has {content.hex()}"

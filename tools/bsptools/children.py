@@ -1,4 +1,4 @@
-"""Child processes, which end with this process, in whatever way that ends."""
+"""Child processes, which end with this process, however it ends."""
 
 from __future__ import annotations
 

@@ -1,4 +1,4 @@
-"""Where the emulator and the compiler are, what they are, and runs of the emulator while a person waits."""
+"""Finds the emulator and the compiler, and runs the emulator while a person waits."""
 
 from __future__ import annotations
 
@@ -110,7 +110,7 @@ def known(path: str) -> str:
             return f"the proved program, as the repository has it, by {pathlib.Path(top, 'prebuilt/kit').read_text().strip()}"
         if path == f"{top}/crates/bspemu/out/bspemu":
             return "the proved program, which was proved and built here"
-    return f"{path}, of which nothing is known"
+    return f"{path}, whose origin is unknown"
 
 
 def run_all(commands: Sequence[list[str]]) -> list[subprocess.CompletedProcess[bytes]]:

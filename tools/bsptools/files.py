@@ -16,7 +16,7 @@ from .refusals import Refused, Unfit, about
 MOST_LINKS = 40
 # Of a file that the tools run or trust later. Who else may read it is up to its user's umask.
 OWN_MODE = 0o644
-GONE = "the folder that this was started in is gone"
+GONE = "the current folder no longer exists"
 
 
 class Folder(NamedTuple):
@@ -75,7 +75,7 @@ def whole(value: object, most: int = 1 << 128) -> int:
     """A whole number of a file, from 0 to the most that it can be: costs are sums of products, so that they may have many digits."""
     text = str(value)
     if not (text.isascii() and text.isdigit() and len(text) <= 40 and int(text) <= most):
-        raise Unfit(f"{text[:40]!r} is no whole number up to {most}")
+        raise Unfit(f"{text[:40]!r} is not a whole number up to {most}")
     return int(text)
 
 

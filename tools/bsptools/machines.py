@@ -107,7 +107,7 @@ def family_named(name: str) -> Family:
 
 def unknown(name: str, known: dict[str, Machine]) -> str:
     """A line that says which machines there are."""
-    return f"{name!r} is no machine that is known: {', '.join(known)}; {TABLE} has them"
+    return f"{name!r} is not a known machine; these are: {', '.join(known)}; {TABLE} has them"
 
 
 class Take(argparse.Action):

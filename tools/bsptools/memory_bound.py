@@ -1,4 +1,4 @@
-"""A block of a tool that takes no more than so much memory and time."""
+"""A block of code with a limit on its memory and its time."""
 
 from __future__ import annotations
 

@@ -1,4 +1,4 @@
-"""The tools' modules, compiled once and kept in a folder of the user's.
+"""The tools' modules, compiled once and kept in a folder of the user.
 
 Most of the time of a short run would go into compiling them. Nothing is written beside the program. What is kept begins with the text that
 it was compiled from, and is taken where that is the module's text, byte for byte, whatever times and places files have, and where the rest

@@ -1,4 +1,4 @@
-"""Folders that are this user's own, and the folders of such in which the tools keep things from run to run.
+"""Folders that belong to this user, and those in which the tools keep results from run to run.
 
 What is run or taken for true later is written into no other folder, and taken from no other one: docs/contributing/folders.md has the rule.
 """

@@ -103,5 +103,5 @@ def of_table(text: object, spelling: re.Pattern[str] = PRICE) -> Exact:
     """A price, or with the form of a total that, of a table; another text is refused."""
     found = number(str(text), spelling)
     if found is None or (spelling is PRICE and found > MOST_PRICE):
-        raise Unfit(f"{str(text)[:40]!r} is no number as 4, 3.875 or 31/8")
+        raise Unfit(f"{str(text)[:40]!r} is not a number such as 4, 3.875 or 31/8")
     return found

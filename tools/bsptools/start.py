@@ -1,4 +1,4 @@
-"""Where each tool begins and how it ends.
+"""How each tool begins and ends.
 
 It ends with what its `main` answers, or with a line that says why not.
 """

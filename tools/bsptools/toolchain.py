@@ -1,4 +1,4 @@
-"""The packages that scripts/toolchain brought into a folder, for who is not root."""
+"""The packages that scripts/toolchain installed into a folder, for users who are not root."""
 
 from __future__ import annotations
 

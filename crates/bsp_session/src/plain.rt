@@ -1,4 +1,4 @@
-//! The sessions that make a run in one thread, for hosts that start no other.
+//! The sessions that run in one thread, for hosts that cannot start another.
 
 ghost use Rattle.std.specs.Prelude.{◌≡◌, ◌≢◌, ◌↔◌, Some, None, IfOk, IfErr, IsErrOf};
 ghost use Rattle.bsp_session.specs.declared.errors.BadSetting.{BadSetting as BadSettingCause};

@@ -39,7 +39,7 @@ use Rattle.bspemu.specs.Options.{AsksFor, IsFaultOf}
 -- what an error prints as, after the program's name; a session's is its own text
 abbrev pub text_of_error : RunError → Option Text
 text_of_error (CannotOpen path) = Some (codes "cannot open " ++ path.now)
-text_of_error TooManyNodes = Some (codes "a profile is of at most 1024 nodes")
+text_of_error TooManyNodes = Some (codes "cannot write a profile of more than 1024 nodes; use fewer nodes, or no --profile")
 text_of_error (Session error) = None
 
 -- the options name this file: as the image, which is not standard input, or as the input

@@ -1,4 +1,4 @@
-//! From the command line to the exit status.
+//! The whole program: from the command line to the exit status.
 
 ghost use Rattle.std.specs.Prelude.{◌≡◌, ◌⊎◌, IfErr, OnOk, map};
 ghost use Rattle.clap.specs.Words.{kind_of};
@@ -29,10 +29,10 @@ use std::sync::Wait;
 use std::thread::Threads;
 use std::{env, fmt, io};
 
-/// The status where the command line is refused.
+/// The status if the command line is refused.
 const REFUSED: u8 = 1;
 
-/// The status where a file can't be opened.
+/// The status if a file can't be opened.
 const NOT_OPENED: u8 = 6;
 
 /// The most nodes of a run with a profile.
@@ -56,7 +56,9 @@ impl fmt::Display for RunError<'_> {
     fn fmt<W: fmt::Write>(&self, f: &mut fmt::Formatter<W>) -> fmt::Result {
         match self {
             RunError::CannotOpen(path) => write!(f, "cannot open {path}"),
-            RunError::TooManyNodes => f.write_str("a profile is of at most 1024 nodes"),
+            RunError::TooManyNodes => f.write_str(
+                "cannot write a profile of more than 1024 nodes; use fewer nodes, or no --profile",
+            ),
             RunError::Session(error) => write!(f, "{error}"),
         }
     }
@@ -360,8 +362,8 @@ fn ended<'a>(answer: Result<(), SessionError>) -> Result<Outcome, RunError<'a>>
     }
 }
 
-/// Opens what the options name, first the image, and answers the lines of standard input: as they come where they are typed at a
-/// terminal, or the options say so. Whether there is a standard input shows only before a file is open.
+/// Opens what the options name, first the image, and answers the lines of standard input: as they come if they are typed at a terminal, or
+/// the options say so. Whether there is a standard input shows only before a file is open.
 #[inline(never)]
 fn debug<'a, R: AllocGlobal + Files + Input<Reader: IsTerminal> + Print>(
     rt: &R,
@@ -443,7 +445,7 @@ fn assemble<'a, R: AllocGlobal + Files + Input>(
     ended(asm_session(rt.alloc(), options.extensions, &mut text, &mut image))
 }
 
-/// The status of an answer, after a line on standard error where it has no outcome.
+/// The status of an answer, after a line on standard error if it has no outcome.
 fn finish<R: Eprint>(rt: &R, answer: Result<Outcome, RunError<'_>>) -> u8
     ensures { result ≡ status_of_answer answer.entry }
 {
@@ -460,8 +462,8 @@ fn finish<R: Eprint>(rt: &R, answer: Result<Outcome, RunError<'_>>) -> u8
     }
 }
 
-/// The status where the words ask for no run, after clap's text: on standard output where it is help or the version that
-/// was asked for, and else on standard error.
+/// The status if the words ask for no run, after clap's text: on standard output if it is help or the version that was asked for, and
+/// otherwise on standard error.
 fn refuse<R: Print + Eprint>(rt: &R, error: &Error) -> u8
     ensures { IsStatusOfKind (kind_of error.now) result }
 {

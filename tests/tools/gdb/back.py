@@ -149,7 +149,7 @@ def back_refused(bench: Bench) -> None:
     # A run that takes long has a second process beside it already.
     none = "bsptools.debug.runner.LONG=1000000"
     text = scarce.gdb(scarce.build("tests/tools/gdb/rounds.c"), [*commands, "stepi", "reverse-continue", "continue"], "-n", "2", numbers=none)
-    refused = "bspgdb: it stays where it is: the debugger has ended"
+    refused = "bspgdb: it does not move: the debugger has ended"
     # Forwards from there it goes by what the process itself has kept.
     in_order(text, refused, refused, "#0  note (round=0)", *["22\t{"] * 3, "23\t", NO_MORE, "hit Breakpoint 1, note")
     expect(text.count(refused) == 2, text)

@@ -136,7 +136,7 @@ def short(tally: Tally, folder: pathlib.Path) -> None:
     bench.write("says.c", "#error No space left on device\n")
     for kind, name, status, wanted in (
         ("full", "says.c", NOT_ALL_RIGHT, ("does not compile", "says.c, line 1: #error No space left on device")),
-        ("kills", "right.c", NOT_MARKED, ("not judged", "it could not be tried: the run was killed, as where memory ran out")),
+        ("kills", "right.c", NOT_MARKED, ("not judged", "it could not be tried: the run was killed, perhaps because memory ran out")),
         ("full", "right.c", ALL_RIGHT, ("right", "")),
         ("is busy", "again.c", ALL_RIGHT, ("right", "")),
     ):

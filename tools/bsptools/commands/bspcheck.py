@@ -27,21 +27,28 @@ def parser() -> Parser:
     found = Parser(
         "bspcheck",
         usage="bspcheck [options] SHEET.toml FILE..",
-        description="Marks C programs by a sheet: whether they compile, give the right output for every number of nodes and every input, and"
-        " stay within the allowed costs. It explains the first mistake in words. One FILE gets a full account, several get a row each.",
+        description="Marks C programs by a sheet of tasks.\n\n"
+        "  bspcheck course/01-broadcast/sheet.toml FILE.c\n\n"
+        "It checks whether they compile, give the right output for every number of nodes and every input, and stay within the allowed costs. With"
+        " one FILE, it prints a full report and explains the first mistake; with several, one row each. docs/manual/marking.md is the manual. The"
+        " exit status is 0 if all hand-ins are right, and 1 if one is not (docs/manual/statuses.md).",
     )
     add = found.add_argument
+    found.section("results")
     add("-o", "--output", metavar="FILE", help="write the marks as CSV")
     add("--html", metavar="FILE", help="write the marks as one HTML page, which shows the expected and the actual output for each mistake")
     add("--junit", metavar="FILE", help="write the marks as JUnit XML, for GitHub Classroom, GitLab and Moodle's VPL")
-    add("--freeze", metavar="FILE", help="write what the solution prints and costs to FILE, the sheet's `wanted`, so that students need no solution")
-    add("--costs", action="store_true", help="print the costs of the solution in each run, and the bounds there")
+    found.section("the sheet")
+    add("--freeze", metavar="FILE", help="write the expected output and costs to FILE, which the sheet names as `wanted`. Students can then check without"
+        " the solution")  # fmt: skip
+    add("--costs", action="store_true", help="print what the solution costs in each run, and the bounds of the sheet for that run")
     found.add_number("--seed", what="a seed", least=0, most=MOST_SEED, metavar="SEED", help="another seed for the sheet's inputs")
+    found.section("marking")
     found.add_number("--jobs", what="the number of hand-ins at a time", least=1, most=MOST_JOBS, default=0, metavar="COUNT",
         help="hand-ins marked at a time; default: the number of processors")  # fmt: skip
-    add("--folder", default=".bspcheck", metavar="FOLDER", help="where results are kept; default .bspcheck")
-    add("--anew", action="store_true", help="mark again, even if a result is kept")
-    add("--trusted", action="store_true", help="mark hand-ins even if the kernel cannot restrict what they read; only for those you trust")
+    add("--folder", default=".bspcheck", metavar="FOLDER", help="where to cache results; default .bspcheck")
+    add("--anew", action="store_true", help="ignore cached results, and mark again")
+    add("--trusted", action="store_true", help="mark hand-ins even on a kernel that cannot restrict what they read; only for programs that you trust")
     add("sheet", metavar="SHEET.toml", help="the sheet")
     add("files", metavar="FILE", nargs="*", help="hand-ins, one .c file each")
     return found

@@ -1,4 +1,4 @@
-"""Where h comes from: the requests of the rank that sent or received most in a superstep, by line."""
+"""The source of h: the requests of the rank that sent or received most in a superstep, by line."""
 
 from __future__ import annotations
 

@@ -1,4 +1,4 @@
-"""How much of a run's work was made in the library's output functions: by the counts of their instructions, and so exact."""
+"""The work of a run in the library's output functions, exactly, from the counts of their instructions."""
 
 from __future__ import annotations
 

@@ -106,7 +106,7 @@ def part_of(superstep: int, rank: int, rows: list[list[str]]) -> Part:
         raise Unfit(f"superstep {superstep}, rank {rank}: a row has other columns than the first one")
     texts = [row[2] for row in rows], [row[3] for row in rows]
     if not all(form.fullmatch(" ".join(them) + " ") for form, them in zip((ADDRESSES, NUMBERS), texts)):
-        raise Unfit(f"superstep {superstep}, rank {rank}: a row is no count")
+        raise Unfit(f"superstep {superstep}, rank {rank}: a row is not a count")
     addresses, steps = [int(it, 16) for it in texts[0]], list(map(int, texts[1]))
     if any(one >= other for one, other in zip(addresses, addresses[1:])) or sum(steps) > MOST_TICKS:
         raise Unfit(f"superstep {superstep}, rank {rank}: its counts are not in their order, or too many")

@@ -26,7 +26,7 @@ SINGLY = 0.5
 # Up to how many seconds some supersteps take together before output and interrupts are looked at again.
 PIECE = 0.01
 # What is said where gdb's program ends with a run: then gdb has nothing any more that could go back.
-ENDS = b"bspgdb: to stop here, from where one can go back, start bspgdb again and type monitor end before continue\n"
+ENDS = b"bspgdb: the run has ended. To go back from its end, start bspgdb again and type monitor end before continue\n"
 
 
 class Runner:
@@ -203,7 +203,7 @@ class Runner:
     def _stay(self, current: int, fault: Exception) -> Halt:
         """What gdb is told where it was broken off that a machine comes to another place, or another process was not to be had."""
         if isinstance(fault, Refused):
-            self.show(f"bspgdb: it stays where it is: {fault}\n".encode())
+            self.show(f"bspgdb: it does not move: {fault}\n".encode())
             return Stop(current, gdb_terms.NONE)
         return Stop(current, gdb_terms.INTERRUPTED)
 

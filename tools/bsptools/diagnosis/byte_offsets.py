@@ -1,4 +1,4 @@
-"""Offsets and sizes in elements where BSPlib counts bytes, by the types of the variables that are named.
+"""Offsets and sizes that are given in elements, but BSPlib counts bytes: found by the types of the variables.
 
 The run is made again, in the debugger, beside which nothing is looked at but areas and requests. It is given as long as the run took.
 """
@@ -317,8 +317,8 @@ def scaled(looker: Looker, used: Used, work: dict[int, int]) -> str:
     if looked is None or looked.area is None or (known is not None and known.size != size):
         return ""
     begin = f"rank {call.node.rank}, superstep {call.superstep}: offset {offset} of {name} at {looked.place}"
-    what = f"{looked.area.name}[{offset}], which is {inside} bytes behind the beginning of {looked.area.name}"
-    advice = "offsets count bytes, so if that is meant, multiply by"
+    what = f"{looked.area.name}[{offset}], which is {inside} bytes after the beginning of {looked.area.name}"
+    advice = "offsets count bytes, so if you mean that, multiply by"
     return f"{begin} looks like the index of {what}: {advice} sizeof({known.name or 'it' if known is not None else 'it'})"
 
 
@@ -338,7 +338,7 @@ def too_large(looker: Looker, suspect: Suspect, asked: int) -> str:
     looked = looker.look(suspect)
     where = f" by bsp_push_reg at {looked.place}" if looked is not None else ""
     begin = f"rank {suspect.rank}, superstep {suspect.superstep}: {suspect.size} bytes are registered{where}"
-    return f"{begin}, of a block of malloc that has {asked}: what is put behind these overwrites other blocks"
+    return f"{begin}, of a block of malloc that has {asked}: a put past them overwrites other blocks"
 
 
 def other_order(looker: Looker, suspect: Suspect, first: int) -> str:
@@ -346,8 +346,8 @@ def other_order(looker: Looker, suspect: Suspect, first: int) -> str:
     looked = looker.look(suspect)
     where = f", by bsp_push_reg at {looked.place}" if looked is not None else ""
     here, there = (f"{it:#x} ({looker.name(suspect, it)})" for it in (suspect.area, first))
-    begin = f"rank {suspect.rank}, superstep {suspect.superstep}: areas are registered in another order than by rank 0{where}"
-    return f"{begin}: {here} in the place of {there}, so that what is put into one comes into the other"
+    begin = f"rank {suspect.rank}, superstep {suspect.superstep}: areas are registered in a different order than on rank 0{where}"
+    return f"{begin}: {here} instead of {there}, so a put into one goes into the other"
 
 
 def may_be_large(sources: list[str]) -> bool:
@@ -380,4 +380,4 @@ def told(looker: Looker, suspects: list[list[Suspect]], latest: float) -> Iterat
         places.setdefault(f"{what} {looked.place}", (line, set()))[1].update(it.rank for it in alike)
     for line, ranks in places.values():
         more = len(ranks) - 1
-        yield line + (f", and so {counted(more, 'more rank')}" if more > 0 else "")
+        yield line + (f"; the same on {counted(more, 'more rank')}" if more > 0 else "")

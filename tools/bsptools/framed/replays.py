@@ -1,4 +1,4 @@
-"""Runs made again in the debugger, by scripts of lines.
+"""Repeats runs in the debugger, by scripts of lines.
 
 Runs are the same each time, so each question is a run of its own. Points make a run some four times as slow, so that supersteps before the
 one that is asked for are made without.

@@ -1,4 +1,4 @@
-"""What came of hand-ins, each in a file named by all that it rests on, so that none is tried twice."""
+"""Evidence about hand-ins, each in a file that is named by everything it depends on, so that no hand-in is tried twice."""
 
 from __future__ import annotations
 

@@ -1,4 +1,4 @@
-"""The marks of hand-ins as a page in one file: a table that is sorted by its columns, of which each row unfolds.
+"""The marks of hand-ins as a page in one file: a table that can be sorted by its columns, and whose rows unfold.
 
 What hand-ins print stands in it as text alone, and the page asks a browser to run and to load nothing but what it has itself.
 """
@@ -114,7 +114,7 @@ def side_by_side(check: Check) -> str:
         came, wanted = (NO_LINE if line is None else f"<td>{text(cut(line))}</td>" for line in (it.came, it.wanted))
         kind = "same" if it.is_same else "differs"
         rows.append(f'<tr class="{kind}"><td class="number">{it.number}</td>{came}{wanted}</tr>')
-    heads = '<tr><th class="number">line</th><th>this printed</th><th>wanted</th></tr>'
+    heads = '<tr><th class="number">line</th><th>printed</th><th>expected</th></tr>'
     return f'<table class="side"><colgroup><col class="count"><col><col></colgroup>{heads}{"".join(rows)}</table>'
 
 

@@ -1,4 +1,4 @@
-"""A sheet: what is asked of a hand-in, on which nodes and inputs, what it may cost, and what each part of it is worth."""
+"""A sheet: what a hand-in must do, on which nodes and inputs, what it may cost, and the points of each part."""
 
 from __future__ import annotations
 

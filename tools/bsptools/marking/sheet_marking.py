@@ -1,4 +1,4 @@
-"""All hand-ins of a sheet: tried side by side, each by a process that can read nothing but what the sheet names, and marked."""
+"""Marks all hand-ins of a sheet, in parallel, each in a process that can read only what the sheet names."""
 
 from __future__ import annotations
 
@@ -93,7 +93,7 @@ def _hand_in(path: str, name: str, place: int) -> HandIn:
     if pathlib.PurePath(path).suffix not in SOURCES:
         return HandIn(path, why=f"a hand-in is a program in C or C++, whose name ends with {', '.join(SOURCES)}")
     if found.st_size > MOST_TEXT:
-        return HandIn(path, why=f"the file has more than {MOST_TEXT} bytes, which no program of a sheet has")
+        return HandIn(path, why=f"the file has more than {MOST_TEXT} bytes, the limit for a program")
     number = os.open(name, os.O_RDONLY | os.O_NOFOLLOW | os.O_NONBLOCK, dir_fd=place)
     with os.fdopen(number, "rb") as file:
         return HandIn(path, file.read(MOST_TEXT + 1))

@@ -92,7 +92,7 @@ def rows(path: str | os.PathLike[str], most: int = MOST_PLACES) -> Iterator[Cont
                 return
             cells = line[:-1].split(",")
             if not line.endswith("\n") or len(cells) != 4 + 2 * len(COLUMNS):
-                raise Unfit(f"{line[:40]!r} is no line of contested bytes")
+                raise Unfit(f"{line[:40]!r} is not a line of contested bytes")
             yield row_of(cells)
         yield sum(piece.count("\n") for piece in iter(lambda: file.read(1 << 20), ""))
 
@@ -120,7 +120,7 @@ def request_of(cells: list[str]) -> Request:
 def digits(text: str, count: int) -> int:
     """A number in so many hexadecimal digits."""
     if len(text) != count or HEXADECIMAL.fullmatch(text) is None:
-        raise Unfit(f"{text!r} is no number in {count} hexadecimal digits")
+        raise Unfit(f"{text!r} is not a number of {count} hexadecimal digits")
     return int(text, 16)
 
 

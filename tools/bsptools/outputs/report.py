@@ -1,4 +1,4 @@
-"""The report behind a program's output, and what its supersteps cost."""
+"""The report after a program's output, and the costs of its supersteps."""
 
 from __future__ import annotations
 
@@ -106,7 +106,7 @@ def checked(report: Report) -> Report:
         if it.end != ("last" if number == last else "turned"):
             raise Unfit(f"superstep {number} ends as {it.end!r}")
     if report.outcome and not (OUTCOME.match(report.outcome.encode(errors="replace")) and "\n" not in report.outcome):
-        raise Unfit(f"{report.outcome!r} is no outcome")
+        raise Unfit(f"{report.outcome!r} is not an outcome")
     w, h = (sum(it.costs[name] for it in report.supersteps) for name in ("w", "h"))
     if report.outcome and not adds_up(report.total - w, h, last + 1):
         raise Unfit(f"the total {report.total} is not that of any prices")

@@ -1,4 +1,4 @@
-"""A report as the emulator's lines, as CSV and as JSON, and the one reader of all of them."""
+"""A report as the emulator's lines, as CSV and as JSON, and the reader for all three."""
 
 from __future__ import annotations
 

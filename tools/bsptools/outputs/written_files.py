@@ -1,4 +1,4 @@
-"""The files that a program writes, put together from its records and into a folder."""
+"""The files that a program writes, assembled from its records and put into a folder."""
 
 from __future__ import annotations
 
@@ -122,7 +122,7 @@ class Files:
                 self.is_put = False
         self.is_put = self.is_put and sum(map(len, found.values())) == len(self.files)
         if not self.is_whole:
-            lines.append(f"not all was written: {MOST_FILES} files and {MOST_WRITTEN} bytes are the most of a run")
+            lines.append(f"not everything was written: the limit of a run is {MOST_FILES} files and {MOST_WRITTEN} bytes")
         return lines[:MOST_LINES] + ([f"and {len(lines) - MOST_LINES} more such lines"] if len(lines) > MOST_LINES else [])
 
 
@@ -200,4 +200,4 @@ def put_one(folder: Folder, names: tuple[str, ...], parts: list[Written], kept: 
         return []
     ranks = [it.rank for it in parts]
     named = f"{min(ranks)} to {max(ranks)}" if ranks == list(range(min(ranks), max(ranks) + 1)) else ", ".join(map(str, ranks))
-    return [f"{target} was written by {counted(len(ranks), 'rank')}, {named}: their parts stand one behind another"]
+    return [f"{target} was written by {counted(len(ranks), 'rank')}, {named}: their parts follow one another"]

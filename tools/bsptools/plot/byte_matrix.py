@@ -1,4 +1,4 @@
-"""The matrix of bytes: which rank sent how many to which, and what each sent and received in all."""
+"""The matrix of bytes: how many each rank sent to each other rank, and the sums."""
 
 from __future__ import annotations
 

@@ -1,4 +1,4 @@
-"""What is drawn, and from what: pictures, and pages of them."""
+"""Chooses what is drawn from which input: pictures, and pages of them."""
 
 from __future__ import annotations
 

@@ -1,4 +1,4 @@
-"""What supersteps cost: w + g*h + l, each part by itself."""
+"""The cost of supersteps, w + g*h + l, with each part separate."""
 
 from __future__ import annotations
 

@@ -120,7 +120,7 @@ def row_of(row: dict[Any, Any], settings: list[str]) -> Row:
         return first
     total, sums = of_table(row["total"], TOTAL), Sums(*(whole(row[name], MOST_SUM) for name in (RESULTS, "w", "h")))
     if not OUTCOME.match(row["outcome"].encode()):
-        raise Unfit(f"{row['outcome']!r} is no outcome")
+        raise Unfit(f"{row['outcome']!r} is not an outcome")
     if sums.supersteps == 0 or total != sums.total(g, l):
         told = f"{sums.w} + {row['g']} * {sums.h} + {row['l']} * {sums.supersteps}"
         raise Unfit(f"the total {spelled(total)} is not {told}")

@@ -294,7 +294,7 @@ class Portable:
 
     def exposed(self) -> None:
         """Bytes that a call reads at a time that is open while another one writes them."""
-        found = exposed_pairs.pairs(self.log)
+        found = exposed_pairs.pairs(self.log, self.exposures)
         seen, untold = list(found.places.values()), found.untold(self.exposures.rows)
         findings = self.findings()
         other = self.at_other_times() if seen else None

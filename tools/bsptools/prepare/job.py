@@ -1,4 +1,4 @@
-"""A program that is ready to run: compiled if it has to be, with its settings and its input."""
+"""A program that is ready to run: compiled if necessary, with its settings and its input."""
 
 from __future__ import annotations
 

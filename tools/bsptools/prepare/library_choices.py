@@ -1,4 +1,4 @@
-"""The choices of a program of `bspcc --portable`, put into its image.
+"""Puts the choices of a `bspcc --portable` program into its image.
 
 BSPlib and C leave them open. bsplib/src/choices.c makes them.
 """

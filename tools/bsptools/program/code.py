@@ -1,4 +1,4 @@
-"""What a program is by its bytes: the kind of its file, its code, the names and lines of its addresses."""
+"""A program by its bytes: the kind of its file, its code, and the names and lines of its addresses."""
 
 from __future__ import annotations
 

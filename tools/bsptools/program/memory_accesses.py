@@ -1,4 +1,4 @@
-"""The bytes that an instruction loads or stores, by its code alone."""
+"""The bytes that an instruction loads or stores, from its code."""
 
 from __future__ import annotations
 

@@ -1,4 +1,4 @@
-"""How much memory a program needs before it runs, and what for."""
+"""The memory that a program needs before it runs, and for what."""
 
 from __future__ import annotations
 

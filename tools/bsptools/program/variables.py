@@ -1,4 +1,4 @@
-"""The variables of a program by what its file has for debuggers: where each is, by DWARF's locations, and what it is made of."""
+"""The variables of a program from its debug information (DWARF): their locations and types."""
 
 from __future__ import annotations
 

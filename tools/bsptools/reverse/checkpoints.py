@@ -1,4 +1,4 @@
-"""The states that a process keeps of its machine, and from which of them it comes to a place.
+"""The checkpoints of a process, and the choice of the one from which to reach a place.
 
 It comes back to such a state within milliseconds, from wherever it is.
 """

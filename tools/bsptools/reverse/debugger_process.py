@@ -1,4 +1,4 @@
-"""The machine as the debugger's lines show and move it, with a cache that each change drops."""
+"""The machine as the debugger's lines show and move it, with a cache that each change clears."""
 
 from __future__ import annotations
 

@@ -1,4 +1,4 @@
-"""The way back of a machine, found by running the program again.
+"""The way back for a machine, found by running the program again.
 
 The history of a machine is that of the debugger's `go`: the ranks one after another through a superstep, and then the turn. Back it goes
 the other way round, from where the machine stands: what the highest rank has done in this superstep, then the one below it, and so on to

@@ -1,4 +1,4 @@
-"""Who wrote bytes of a rank's memory last, found by going back piece by piece.
+"""Finds who last wrote bytes of a rank's memory, by going back piece by piece.
 
 What has run in a piece is made once more, instruction by instruction, and so are the requests of its supersteps. A piece lies in one
 superstep, or is of whole ones. The first is small, and each one before it is larger, so that what was written lately is found soon.

@@ -1,4 +1,4 @@
-"""A rank that goes on instruction by instruction, and what each of these has stored."""
+"""Steps of a rank, instruction by instruction, and what each has stored."""
 
 from __future__ import annotations
 

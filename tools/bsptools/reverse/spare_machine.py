@@ -1,4 +1,4 @@
-"""A second machine, which goes the way of the first one and keeps states.
+"""A second machine, which follows the first one and keeps checkpoints.
 
 It keeps states on its way, so that the first one is brought back to any place without the whole run. Where the emulator keeps none, it stands
 where a superstep begins.

@@ -1,4 +1,4 @@
-"""Names of addresses and lines of the source, read when they are first asked for."""
+"""Names and source lines of addresses, read when they are first needed."""
 
 from __future__ import annotations
 

@@ -1,4 +1,4 @@
-"""What is said of a run that is over: a summary, why it did not end well, likely mistakes."""
+"""The messages at the end of a run: a summary, why it failed, likely mistakes."""
 
 from __future__ import annotations
 

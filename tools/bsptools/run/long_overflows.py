@@ -1,4 +1,4 @@
-"""A run beside the program's, of a build that notes what does not fit into a `long` of 32 bits.
+"""A second run of the program, built so that it notes values that do not fit into a `long` of 32 bits.
 
 It is no part of the run, and what it finds is told behind all else.
 """

@@ -1,4 +1,4 @@
-"""Where the ranks were when a run was broken off, found by running it for as long again."""
+"""Where the ranks were when a run was interrupted, found by running it again for as long."""
 
 from __future__ import annotations
 

@@ -1,4 +1,4 @@
-"""What is done with a run's records: files into their folder, notes into lines."""
+"""Handles the records of a run: writes files into their folder, and notes as lines."""
 
 from __future__ import annotations
 

@@ -1,4 +1,4 @@
-"""The build of a program beside its run which notes what does not fit into a `long`: of its sources, or of those that its executable records.
+"""The build for the second run that looks for overflow of `long`, from the sources or from those that the executable records.
 """
 
 from __future__ import annotations

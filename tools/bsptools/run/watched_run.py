@@ -1,4 +1,4 @@
-"""A run that a person watches: output superstep by superstep, until it ends, or the clock or Ctrl-C ends it."""
+"""A run in a terminal: writes output superstep by superstep, until the run, the time limit or Ctrl-C ends it."""
 
 from __future__ import annotations
 

@@ -1,4 +1,4 @@
-"""The folder in which a sweep keeps its results, and the folders in it: all of them are this user's own."""
+"""The folder in which a sweep keeps its results, and the folders in it, which all belong to this user."""
 
 from __future__ import annotations
 

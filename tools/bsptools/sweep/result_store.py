@@ -1,4 +1,4 @@
-"""What runs gave, each in a file named by all that the run depends on, so that none is made twice."""
+"""Results of runs, each in a file that is named by everything the run depends on, so that no run is repeated."""
 
 from __future__ import annotations
 

@@ -1,4 +1,4 @@
-"""The record of a table: all that it rests on, in a file of JSON beside it, from which the same table can be made again."""
+"""The record of a table: a JSON file beside it with everything it depends on, from which it can be made again."""
 
 from __future__ import annotations
 

@@ -12,9 +12,11 @@ const MOST_TOUCHED = 24;
 const FEW_TOUCHED = 4;
 const MOST_TEXT = 200;
 const MOST_CHANGED = 24;
-// How many values all boxes of a stop have together, and how deep values lie in others: unions of unions have many in a few bytes.
-const MOST_CELLS = 50_000;
-const MOST_INSIDE = 24;
+// How many values are shown of all boxes of a stop together, and of one box unless a reader asks for all; and how deep they lie in others.
+// Unions of unions have millions in a few bytes.
+const MOST_VALUES = 12_000;
+const MOST_OF_FOLDED = 1500;
+const MOST_INSIDE = 12;
 
 /** A number of the kind double in as few digits as a person wants to read. */
 function shortNumber(value) {
@@ -80,9 +82,9 @@ class Shown {
    * @param {boolean} isOpen whether long arrays are shown with all their elements
    * @param {[number, number][]} touched where bytes of the box begin and end that requests take or bring
    * @param {number} most how many of the first elements of a long array are shown
-   * @param {{left: number}} room how many values there may be; the boxes of a stop share it
+   * @param {{left: number}} room how many values there may be
    */
-  constructor(types, named, isOpen = false, touched = [], most = MOST_ELEMENTS, room = { left: MOST_CELLS }) {
+  constructor(types, named, isOpen = false, touched = [], most = MOST_ELEMENTS, room = { left: MOST_VALUES }) {
     Object.assign(this, { types, named, isOpen, touched, most, room, inside: 0 });
   }
 

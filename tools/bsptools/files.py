@@ -16,6 +16,8 @@ from .refusals import Refused, Unfit, about
 MOST_LINKS = 40
 # Of a file that the tools run or trust later. Who else may read it is up to its user's umask.
 OWN_MODE = 0o644
+# renameat2(2): paths are from the current folder on, and two names are exchanged.
+AT_FDCWD, RENAME_EXCHANGE = -100, 2
 GONE = "the current folder no longer exists"
 
 
@@ -184,6 +186,17 @@ def write(path: str | os.PathLike[str], content: str | bytes) -> None:
     """Writes a whole file."""
     with replaced(path) as written, about(path), open(written, "wb") as file:
         file.write(content.encode(errors="surrogateescape") if isinstance(content, str) else content)
+
+
+def exchange(new: str | os.PathLike[str], old: str | os.PathLike[str]) -> None:
+    """Gives two folders each other's names in one step, so that a process that is killed leaves a whole one under each name."""
+    # Most tools do without it.
+    import ctypes
+
+    libc = ctypes.CDLL(None, use_errno=True)
+    words = [ctypes.c_int(AT_FDCWD), os.fsencode(new), ctypes.c_int(AT_FDCWD), os.fsencode(old), ctypes.c_uint(RENAME_EXCHANGE)]
+    if libc.renameat2(*words) != 0:
+        raise OSError(ctypes.get_errno(), os.strerror(ctypes.get_errno()), os.fspath(old))
 
 
 @contextlib.contextmanager

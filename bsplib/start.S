@@ -1,4 +1,4 @@
-# Where each node starts, with the memory's size in sp and all other registers 0. Memory that the image does not fill is 0,
+# The start of each node, with the memory's size in sp and all other registers 0. Memory that the image does not fill is 0,
 # so .bss needs no loop.
     .section .text.start, "ax"
     .globl _start

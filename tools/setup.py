@@ -1,4 +1,4 @@
-"""Builds the wheel: the packages, and beside them what of the repository's top the commands stand on."""
+"""Builds the wheel: the packages, and the files of the repository that the commands need."""
 
 from __future__ import annotations
 

@@ -1,4 +1,4 @@
-/* OpenMP's functions, as they answer for one thread. bspcc leaves -fopenmp out, so that GCC skips the pragmas. */
+/* OpenMP's functions for one thread. bspcc leaves -fopenmp out, so that GCC skips the pragmas. */
 #ifndef BSP_OMP_H
 #define BSP_OMP_H
 

@@ -1,5 +1,5 @@
-/* What was asked for in a superstep comes about: all gets read, then gets land, and then puts; where two write the same byte, puts count more
-   than gets, higher ranks more than lower ones, and later calls more than earlier ones. So it is on the nodes of the emulator. */
+/* Carries out the requests of a superstep: all gets read, then gets land, and then puts. If two write the same byte, puts count more than
+   gets, higher ranks more than lower ones, and later calls more than earlier ones, as on the nodes of the emulator. */
 #include "native.h"
 
 #include <string.h>
@@ -21,7 +21,7 @@ static char *named_place(const struct request *request, int from)
 {
     const struct area *area = &areas[request->place];
     if (request->offset + request->size > area->size)
-        stop(STATUS_NOT_MET, "a %s of rank %d does not keep to its area: offset %llu and %llu bytes come to %llu, and the area has %zu bytes here",
+        stop(STATUS_NOT_MET, "a %s of rank %d does not keep to its area: offset %llu + %llu bytes = %llu, but the area has %zu bytes here",
              request->kind == PUT ? "put" : "get", from, (unsigned long long)request->offset, (unsigned long long)request->size,
              (unsigned long long)(request->offset + request->size), area->size);
     return (char *)area->at + request->offset;

@@ -1,7 +1,7 @@
-/* What a computer takes for operations and for h-relations, as textbooks have it measured (Bisseling, Parallel Scientific Computation,
-   chapter 1): r by additions of a multiple of a vector to another, g and l by h-relations of single words. It has BSPlib's calls alone, and
-   prints what bspprobe reads. Its arguments are the bytes of a word, the greatest h in words, the number of rounds, and for how many
-   milliseconds it measures each time. */
+/* Measures r, g and l of a computer (Bisseling, Parallel Scientific Computation, chapter 1): r by adding a multiple of a vector to another
+   one, g and l by h-relations of single words. It uses only BSPlib's calls, and prints what bspprobe reads. Its arguments are the bytes of
+   a word, the greatest h in words, the number of rounds, and the number of milliseconds
+   for which it measures each time. */
 #include <bsp.h>
 #include <stdio.h>
 #include <stdlib.h>

@@ -174,7 +174,7 @@ static void format_into(struct sink *to, const char *format, va_list *arguments)
             break;
         }
         default:
-            bsp_stop("this conversion of printf wants the C library: build without --small");
+            bsp_stop("this conversion of printf needs the C library: build without --small");
         }
         format++;
         width -= count + leading + (sign != '\0') + (int)strlen(prefix);
@@ -426,7 +426,7 @@ int scanf(const char *format, ...)
             getchar();
             continue;
         } else
-            bsp_stop("this conversion of scanf wants the C library: build without --small");
+            bsp_stop("this conversion of scanf needs the C library: build without --small");
         stored += !is_dropped;
     }
     va_end(arguments);

@@ -1,5 +1,5 @@
-/* What real software names and a node does not have: folders, terminals, sockets, processes. Functions answer that there is none, so that a
-   program goes on as on a host that lacks it. All of it is weak, since a program may have functions of these names. */
+/* Functions that real software calls and a node cannot offer: folders, terminals, sockets, processes. They answer that there is none, so
+   that a program goes on as on a host that lacks it. All of it is weak, since a program may have functions of these names. */
 #include <dirent.h>
 #include <dlfcn.h>
 #include <errno.h>

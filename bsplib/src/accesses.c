@@ -1,4 +1,4 @@
-/* What a program of bspcc --portable=accesses reads and writes itself, where an unbuffered call has the same bytes. GCC has the program call
+/* With bspcc --portable=accesses: notes the program's own accesses to bytes that an unbuffered call also has. GCC has the program call
    the functions of this file before each load and store (-fsanitize=thread, of which it has no library for this machine), and the linker has
    it call those that copy and fill. bsprun writes the bytes of unbuffered calls into the program's image, behind their magic. */
 #include "bsp.h"

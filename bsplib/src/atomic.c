@@ -1,4 +1,4 @@
-/* What GCC calls for atomic operations, which the processor does not have: each is a plain one, since a node has one thread. */
+/* The functions that GCC calls for atomic operations: plain operations, since a node has one thread. */
 #include <stdint.h>
 #include <string.h>
 

@@ -1,7 +1,7 @@
-/* What a program of bspcc --check calls where C leaves open what it does: a line with the superstep, the place and the operands, and the
-   node stops. Of bspcc --check=long the calls have no `_abort` in their names: what does not fit into 32 bits, and may fit into 64, is
-   noted for bsprun, once for each place, and the node goes on. The compiler makes these calls, and lays out what they are given. GCC has no
-   library with them for this machine. */
+/* With bspcc --check: stops the node at undefined behaviour, with a line that has the superstep, the place and the operands. With bspcc
+   --check=long the calls have no `_abort` in their names. They note for bsprun what does not fit into 32 bits, and may fit into 64, once
+   for each place, and the node goes on. The compiler makes these calls and lays out their operands. GCC has no library with them for this
+   machine. */
 #include <stdint.h>
 
 #include "machine.h"
@@ -293,7 +293,7 @@ void __ubsan_handle_type_mismatch_v1_abort(const struct pointed *at, value addre
     else {
         add("address 0x");
         add_number(address, 16);
-        add(" is used, and is no multiple of ");
+        add(" is used, and is not a multiple of ");
         add_number(1u << at->alignment, 10);
         add(" as that of ");
     }
@@ -313,7 +313,7 @@ void __ubsan_handle_vla_bound_not_positive_abort(const struct typed *at, value b
 void __ubsan_handle_builtin_unreachable(const struct typed *at)
 {
     begin(&at->place);
-    add("the program comes to where it says that it never does");
+    add("the program reached a place that it declares unreachable");
     end();
 }
 

@@ -1,4 +1,4 @@
-/* What BSPlib and C leave open, chosen in a program of bspcc --portable. The linker has that call the functions of this file in the
+/* With bspcc --portable: makes the choices that BSPlib and C leave open. The linker has that call the functions of this file in the
    place of those that they are named after (--wrap). bsprun writes the choices into the program's image, behind their magic. */
 #include "bsp.h"
 #include "machine.h"
@@ -35,7 +35,7 @@ struct bsp_choices {
     unsigned is_logged;  /* whether the calls are told in records */
     unsigned is_moved;   /* whether the stack and malloc's memory begin elsewhere on each rank */
     unsigned is_alone;   /* whether ranks above 0 have at bsp_begin what their variables had at the start: those that `cut` has, by addresses */
-    unsigned is_summed;  /* whether a sum over the variables that `cut` has, by addresses, is told at bsp_end */
+    unsigned is_summed;  /* whether the variables that `cut` has, by addresses, are told at bsp_end */
     struct point until;
     unsigned cuts; /* how many there are, by their supersteps, ranks, requests and first bytes */
     struct cut cut[MOST_CUTS];
@@ -47,11 +47,15 @@ struct bsp_choices bsp_choices __attribute__((section(".data"))) = {.magic = "\0
 /* What a target of bsp_hpget has between the call and bsp_sync. */
 #define SPOILT 0xa5
 
-/* Where this rank is: its superstep, and in that its points of each kind. */
+/* Where this rank is: its number, its superstep, in that its points of each kind, whether it has cuts there, and whether its puts, gets and
+   sends are made as they are and not told. */
 static struct {
-    unsigned superstep, calls, pieces;
+    unsigned rank, superstep, calls, pieces;
+    int has_cuts, is_plain;
 } here;
 unsigned bsp_requested = 0;
+
+typedef unsigned __attribute__((may_alias)) any_word;
 
 /* The room above the program's memory: messages from below, calls from above. All of it is free again after bsp_sync. */
 static struct {
@@ -72,11 +76,9 @@ static char *take_room(size_t size, int is_high)
 static int is_chosen(unsigned index)
 {
     const struct point *until = &bsp_choices.until;
-    unsigned rank;
     if (here.superstep != until->superstep)
         return here.superstep < until->superstep;
-    rank = (unsigned)bsp_pid();
-    return rank != until->rank ? rank < until->rank : index < until->index;
+    return here.rank != until->rank ? here.rank < until->rank : index < until->index;
 }
 
 /* Calls as tools/bsptools/portable/call_log.py reads them: the machine's number, or one of those below, and where the call goes back to. What
@@ -95,28 +97,32 @@ static struct {
     struct logged all[MOST_LOGGED];
 } log;
 
-/* Writes a record with a word and more bytes. Unlike those of bsp_record it leaves alone what stands in the buffers of the output, so that a
-   run that tells of itself has the output of one that does not, and it is written whether others are wanted or not. */
-static void tell_record(int kind, unsigned word, const void *bytes, int size)
+/* A record with a word and more bytes. */
+enum { MOST_RECORDED = 4096 };
+static struct {
+    char mark[sizeof bsp_settings.mark];
+    unsigned size, rank, word;
+    char bytes[MOST_RECORDED];
+} record;
+
+/* Writes it. Unlike those of bsp_record it leaves alone what stands in the buffers of the output, so that a run that tells of itself has the
+   output of one that does not, and it is written whether others are wanted or not. */
+static void write_record(int kind, unsigned word, int size)
 {
-    static struct {
-        char mark[sizeof bsp_settings.mark];
-        unsigned size, rank, word;
-        char bytes[sizeof log.all];
-    } record;
     memcpy(record.mark, (const char *)bsp_settings.mark, sizeof record.mark);
     record.mark[sizeof record.mark - 1] = (char)kind;
     record.size = (unsigned)(sizeof record.rank + sizeof record.word) + (unsigned)size;
-    record.rank = (unsigned)bsp_pid();
+    record.rank = here.rank;
     record.word = word;
-    memcpy(record.bytes, bytes, (size_t)size);
     machine_call_2(CALL_WRITE, (long)&record, (long)(record.bytes - (char *)&record) + size);
 }
 
 static void write_log(void)
 {
-    if (log.count > 0)
-        tell_record(RECORD_CALLS, here.superstep, log.all, log.count * (int)sizeof *log.all);
+    if (log.count > 0) {
+        memcpy(record.bytes, log.all, (size_t)log.count * sizeof *log.all);
+        write_record(RECORD_CALLS, here.superstep, log.count * (int)sizeof *log.all);
+    }
     log.count = 0;
 }
 
@@ -136,13 +142,47 @@ static void log_call(struct logged call)
 /* By how many bytes of this rank's stack and heap lie elsewhere: by others than those of the ranks beside it. */
 static size_t moved(void)
 {
-    return 16 * (1 + (size_t)bsp_pid() * 7 % 251);
+    return 16 * (1 + (size_t)here.rank * 7 % 251);
 }
 
 void bsp_log_access(int is_write, const void *place, unsigned start, unsigned size)
 {
     if (bsp_choices.is_logged && bsp_part == BSP_WITHIN)
         log_call((struct logged){is_write ? LOG_WRITTEN : LOG_READ, (unsigned)place, 0, start, 0, 0, (int)size, 0});
+}
+
+/* The first of the cuts that are not before a request, by halves. */
+static const struct cut *cuts_from(unsigned request)
+{
+    const struct cut *low = bsp_choices.cut, *high = low + bsp_choices.cuts;
+    while (low < high) {
+        const struct cut *it = low + (high - low) / 2;
+        int is_before = it->superstep != here.superstep ? it->superstep < here.superstep
+                        : it->rank != here.rank         ? it->rank < here.rank
+                                                        : it->request < request;
+        if (is_before)
+            low = it + 1;
+        else
+            high = it;
+    }
+    return low;
+}
+
+static int is_here(const struct cut *it)
+{
+    return it < bsp_choices.cut + bsp_choices.cuts && it->superstep == here.superstep && it->rank == here.rank;
+}
+
+static int is_cut(const struct cut *it, unsigned request)
+{
+    return is_here(it) && it->request == request;
+}
+
+/* Finds out what is chosen in the superstep that begins. Cuts of variables are of none. */
+static void begin_superstep(void)
+{
+    here.has_cuts = bsp_choices.cuts > 0 && !bsp_choices.is_alone && !bsp_choices.is_summed && is_here(cuts_from(0));
+    here.is_plain = !here.has_cuts && !bsp_choices.is_logged && bsp_choices.unbuffered == AS_BUFFERED;
 }
 
 __attribute__((noreturn)) extern void __real_bsp_start(void);
@@ -183,6 +223,8 @@ __attribute__((noreturn)) void __wrap_bsp_start(void)
     }
     room.low = room.start;
     room.high = room.end;
+    here.rank = (unsigned)bsp_pid();
+    begin_superstep();
     fill_stack((size_t)-1);
     if (bsp_choices.is_moved)
         go_lower(moved());
@@ -209,7 +251,7 @@ int __wrap_main(int argc, char **argv)
 {
     size_t size = 0;
     unsigned i;
-    if (bsp_choices.is_alone && bsp_pid() > 0) {
+    if (bsp_choices.is_alone && here.rank > 0) {
         for (i = 0; i < bsp_choices.cuts; i++)
             size += (size_t)(bsp_choices.cut[i].to - bsp_choices.cut[i].from);
         variables_at_start = take_room(size, 0);
@@ -257,31 +299,6 @@ extern real_get __real_bsp_get, __real_bsp_hpget;
 extern void __real_bsp_send(int pid, const void *tag, const void *payload, int payload_nbytes);
 extern void __real_bsp_hpsend(int pid, const void *tag, const void *payload, int payload_nbytes);
 
-/* The first of the cuts that are not before a request, by halves. */
-static const struct cut *cuts_from(unsigned request)
-{
-    const struct cut *low = bsp_choices.cut, *high = low + bsp_choices.cuts;
-    unsigned rank = (unsigned)bsp_pid();
-    if (bsp_choices.is_alone || bsp_choices.is_summed)
-        return high;
-    while (low < high) {
-        const struct cut *it = low + (high - low) / 2;
-        int is_before = it->superstep != here.superstep ? it->superstep < here.superstep
-                        : it->rank != rank              ? it->rank < rank
-                                                        : it->request < request;
-        if (is_before)
-            low = it + 1;
-        else
-            high = it;
-    }
-    return low;
-}
-
-static int is_cut(const struct cut *it, unsigned request)
-{
-    return it < bsp_choices.cut + bsp_choices.cuts && it->superstep == here.superstep && it->rank == (unsigned)bsp_pid() && it->request == request;
-}
-
 static void put_parts(real_put *put, unsigned request, int pid, const void *src, void *dst, int offset, int nbytes)
 {
     const struct cut *it;
@@ -308,12 +325,16 @@ static void get_parts(real_get *get, unsigned request, int pid, const void *src,
         get(pid, src, offset + from, (char *)dst + from, nbytes - from);
 }
 
-/* The call that is made as it is comes last, so that GCC goes on there: then the library sees where the program has made it. */
+/* Nothing follows the call that is made as it is, so that GCC goes on there: then the library sees where the program has made it. */
 void __wrap_bsp_put(int pid, const void *src, void *dst, int offset, int nbytes)
 {
     unsigned request = bsp_requested++;
+    if (here.is_plain) {
+        __real_bsp_put(pid, src, dst, offset, nbytes);
+        return;
+    }
     LOG(CALL_PUT, pid, src, dst, offset, nbytes, 0);
-    if (is_cut(cuts_from(request), request)) {
+    if (here.has_cuts && is_cut(cuts_from(request), request)) {
         put_parts(__real_bsp_put, request, pid, src, dst, offset, nbytes);
         return;
     }
@@ -323,42 +344,53 @@ void __wrap_bsp_put(int pid, const void *src, void *dst, int offset, int nbytes)
 void __wrap_bsp_get(int pid, const void *src, int offset, void *dst, int nbytes)
 {
     unsigned request = bsp_requested++;
+    if (here.is_plain) {
+        __real_bsp_get(pid, src, offset, dst, nbytes);
+        return;
+    }
     LOG(CALL_GET, pid, src, dst, offset, nbytes, 0);
-    if (is_cut(cuts_from(request), request)) {
+    if (here.has_cuts && is_cut(cuts_from(request), request)) {
         get_parts(__real_bsp_get, request, pid, src, offset, dst, nbytes);
         return;
     }
     __real_bsp_get(pid, src, offset, dst, nbytes);
 }
 
-/* The last 8 bytes of a message, or those that there are. */
-struct last {
-    unsigned low;
-    int high;
-};
-static struct last last_of(const void *payload, int nbytes)
+/* Tells of a message: also its last 8 bytes, or those that there are. */
+static __attribute__((noinline)) void log_send(const void *place, int pid, const void *tag, const void *payload, int nbytes)
 {
-    struct last it = {0, 0};
-    if (bsp_choices.is_logged && nbytes >= (int)sizeof it)
-        memcpy(&it, (const char *)payload + nbytes - sizeof it, sizeof it);
-    else if (bsp_choices.is_logged && nbytes == (int)sizeof it.low)
-        memcpy(&it.low, payload, sizeof it.low);
-    return it;
+    struct {
+        unsigned low;
+        int high;
+    } last = {0, 0};
+    if (!bsp_choices.is_logged || bsp_part != BSP_WITHIN)
+        return;
+    if (nbytes >= (int)sizeof last)
+        memcpy(&last, (const char *)payload + nbytes - sizeof last, sizeof last);
+    else if (nbytes == (int)sizeof last.low)
+        memcpy(&last.low, payload, sizeof last.low);
+    log_call((struct logged){CALL_SEND, (unsigned)place, pid, (unsigned)payload, last.low, last.high, nbytes, (unsigned)tag});
 }
 
 void __wrap_bsp_send(int pid, const void *tag, const void *payload, int payload_nbytes)
 {
-    struct last it = last_of(payload, payload_nbytes);
     bsp_requested++;
-    LOG(CALL_SEND, pid, payload, it.low, it.high, payload_nbytes, tag);
+    if (here.is_plain) {
+        __real_bsp_send(pid, tag, payload, payload_nbytes);
+        return;
+    }
+    log_send(__builtin_return_address(0), pid, tag, payload, payload_nbytes);
     __real_bsp_send(pid, tag, payload, payload_nbytes);
 }
 
 void __wrap_bsp_hpsend(int pid, const void *tag, const void *payload, int payload_nbytes)
 {
-    struct last it = last_of(payload, payload_nbytes);
     bsp_requested++;
-    LOG(CALL_SEND, pid, payload, it.low, it.high, payload_nbytes, tag);
+    if (here.is_plain) {
+        __real_bsp_hpsend(pid, tag, payload, payload_nbytes);
+        return;
+    }
+    log_send(__builtin_return_address(0), pid, tag, payload, payload_nbytes);
     __real_bsp_hpsend(pid, tag, payload, payload_nbytes);
 }
 
@@ -429,8 +461,12 @@ static int is_kept(int nbytes, unsigned kinds)
 void __wrap_bsp_hpput(int pid, const void *src, void *dst, int offset, int nbytes)
 {
     unsigned index = here.calls++, request = bsp_requested++;
+    if (here.is_plain) {
+        __real_bsp_hpput(pid, src, dst, offset, nbytes);
+        return;
+    }
     LOG(CALL_HPPUT, pid, src, dst, offset, nbytes, 0);
-    if (is_cut(cuts_from(request), request)) {
+    if (here.has_cuts && is_cut(cuts_from(request), request)) {
         put_parts(__real_bsp_hpput, request, pid, src, dst, offset, nbytes);
         return;
     }
@@ -440,21 +476,25 @@ void __wrap_bsp_hpput(int pid, const void *src, void *dst, int offset, int nbyte
             return;
     }
     __real_bsp_hpput(pid, src, dst, offset, nbytes);
-    if (is_kept(nbytes, 1 << EARLY) && pid == bsp_pid() && is_chosen(index))
+    if (is_kept(nbytes, 1 << EARLY) && pid == (int)here.rank && is_chosen(index))
         memmove((char *)dst + offset, src, (size_t)nbytes);
 }
 
 void __wrap_bsp_hpget(int pid, const void *src, int offset, void *dst, int nbytes)
 {
     unsigned index = here.calls++, request = bsp_requested++;
+    if (here.is_plain) {
+        __real_bsp_hpget(pid, src, offset, dst, nbytes);
+        return;
+    }
     LOG(CALL_HPGET, pid, src, dst, offset, nbytes, 0);
-    if (is_cut(cuts_from(request), request)) {
+    if (here.has_cuts && is_cut(cuts_from(request), request)) {
         get_parts(__real_bsp_hpget, request, pid, src, offset, dst, nbytes);
         return;
     }
     __real_bsp_hpget(pid, src, offset, dst, nbytes);
     /* A rank's own bytes may be source and target of one call. */
-    if (is_kept(nbytes, 1 << EARLY | 1 << LATE) && pid != bsp_pid() && is_chosen(index)) {
+    if (is_kept(nbytes, 1 << EARLY | 1 << LATE) && pid != (int)here.rank && is_chosen(index)) {
         memset(dst, SPOILT, (size_t)nbytes);
         if (bsp_choices.unbuffered == EARLY)
             keep_call(pid, src, dst, offset, nbytes, index, 1);
@@ -494,13 +534,14 @@ static void keep_written(const struct call *it)
 }
 
 /* What the library writes for the program, in one of bspcc --portable=accesses. */
-#define WRITES(to, count)                                                                                                        \
+#define WRITES(to, count, place)                                                                                                 \
     do {                                                                                                                         \
         if (bsp_access != NULL)                                                                                                  \
-            bsp_access(to, (size_t)(count), 1, __builtin_return_address(0));                                                     \
+            bsp_access(to, (size_t)(count), 1, place);                                                                           \
     } while (0)
 
-/* Messages. They are taken out of the machine's queue where the program first looks at it. */
+/* Messages. If they may come in another order, or are to be spoilt, they are taken out of the machine's queue when the program first looks at
+   it. */
 struct message {
     char *tag, *payload;
     int size;
@@ -528,7 +569,7 @@ void __wrap_bsp_set_tagsize(int *tag_nbytes)
 /* Swaps messages as far as they are chosen. tools/bsptools/prepare/library_choices.py makes the same swaps. */
 static void swap_messages(void)
 {
-    unsigned random = bsp_choices.seed + here.superstep * 2654435761u + (unsigned)bsp_pid() * 40503u, number = bsp_choices.seed;
+    unsigned random = bsp_choices.seed + here.superstep * 2654435761u + here.rank * 40503u, number = bsp_choices.seed;
     int i, other;
     for (i = 0; i < queue.count - 1 && is_chosen((unsigned)i); i++) {
         other = i;
@@ -547,34 +588,48 @@ static void swap_messages(void)
     }
 }
 
-/* Whether the queue is kept here. Outside of bsp_begin and bsp_end the functions themselves stop the program. */
-static int keeps_queue(void)
+/* Takes what is left in the machine's queue. The calls are made here, since of many messages most of a run would be these. */
+static __attribute__((noinline)) void keep_queue(void)
 {
-    int messages, i;
-    if (bsp_part != BSP_WITHIN || bsp_choices.memory == 0)
-        return 0;
-    if (queue.is_kept)
-        return 1;
-    __real_bsp_qsize(&messages, &queue.bytes);
+    int messages, bytes, i;
+    size_t tag_size = ((size_t)queue.received_tag + 7) & ~(size_t)7;
+    char *place;
+    machine_call_2(CALL_QSIZE, (long)&messages, (long)&bytes);
     queue.all = (struct message *)take_room((size_t)messages * sizeof *queue.all, 0);
+    if ((size_t)(room.high - room.low) / (tag_size + 7 + 1) < (size_t)messages)
+        take_room((size_t)-8, 0);
+    /* As much as they can take, in steps of 8 bytes each. */
+    place = take_room((size_t)messages * (tag_size + 7) + (size_t)bytes, 0);
     for (i = 0; i < messages; i++) {
         struct message *it = &queue.all[i];
-        it->tag = take_room((size_t)queue.received_tag, 0);
-        __real_bsp_get_tag(&it->size, it->tag);
-        it->payload = take_room((size_t)it->size, 0);
-        __real_bsp_move(it->payload, it->size);
+        it->tag = place;
+        it->payload = place += tag_size;
+        machine_call_2(CALL_GET_TAG, (long)&it->size, (long)it->tag);
+        machine_call_2(CALL_MOVE, (long)it->payload, it->size);
+        place += ((size_t)it->size + 7) & ~(size_t)7;
     }
+    room.low = place;
+    queue.bytes = bytes;
     queue.count = messages;
     queue.next = 0;
     queue.is_kept = 1;
     if (bsp_choices.order != AS_SENT)
         swap_messages();
-    return 1;
 }
+
+/* Whether the queue is kept here. Outside of bsp_begin and bsp_end the functions themselves stop the program. */
+static inline int keeps_queue(int is_wanted)
+{
+    if (!queue.is_kept && is_wanted && bsp_part == BSP_WITHIN && bsp_choices.memory != 0)
+        keep_queue();
+    return queue.is_kept;
+}
+/* What is chosen of messages. In a program of bspcc --portable=accesses the sizes of messages are wanted, too. */
+#define IS_OTHERWISE (bsp_choices.order != AS_SENT || bsp_choices.queue != 0 || bsp_access != NULL)
 
 void __wrap_bsp_qsize(int *nmessages, int *accum_nbytes)
 {
-    if (!keeps_queue()) {
+    if (!keeps_queue(IS_OTHERWISE)) {
         __real_bsp_qsize(nmessages, accum_nbytes);
         return;
     }
@@ -586,7 +641,7 @@ void __wrap_bsp_qsize(int *nmessages, int *accum_nbytes)
 
 void __wrap_bsp_get_tag(int *status, void *tag)
 {
-    if (!keeps_queue()) {
+    if (!keeps_queue(IS_OTHERWISE)) {
         __real_bsp_get_tag(status, tag);
         return;
     }
@@ -595,7 +650,7 @@ void __wrap_bsp_get_tag(int *status, void *tag)
         return;
     }
     *status = queue.all[queue.next].size;
-    WRITES(tag, queue.received_tag);
+    WRITES(tag, queue.received_tag, __builtin_return_address(0));
     memcpy(tag, queue.all[queue.next].tag, (size_t)queue.received_tag);
 }
 
@@ -607,24 +662,50 @@ static const struct message *next_message(void)
     return it;
 }
 
+/* Tells of a message that is taken where none is left in the machine's queue. */
+static __attribute__((noinline)) void log_move(const void *place)
+{
+    int messages, bytes;
+    if (!bsp_choices.is_logged || bsp_part != BSP_WITHIN)
+        return;
+    machine_call_2(CALL_QSIZE, (long)&messages, (long)&bytes);
+    if (messages == 0)
+        log_call((struct logged){.number = LOG_NO_MESSAGE, .place = (unsigned)place});
+}
+
+static __attribute__((noinline)) void move_kept(void *payload, int reception_nbytes, const void *place)
+{
+    const struct message *it = next_message();
+    int count = it->size < reception_nbytes ? it->size : reception_nbytes;
+    WRITES(payload, count, place);
+    /* As of most messages, which have a number. */
+    if (count == (int)sizeof(any_word) && (size_t)payload % sizeof(any_word) == 0)
+        *(any_word *)payload = *(const any_word *)it->payload;
+    else
+        memcpy(payload, it->payload, (size_t)count);
+}
+
 void __wrap_bsp_move(void *payload, int reception_nbytes)
 {
-    if (reception_nbytes < 0 || !keeps_queue()) {
+    if (reception_nbytes < 0 || !keeps_queue(IS_OTHERWISE)) {
+        if (here.is_plain) {
+            __real_bsp_move(payload, reception_nbytes);
+            return;
+        }
+        log_move(__builtin_return_address(0));
         __real_bsp_move(payload, reception_nbytes);
     } else if (queue.next == queue.count) {
         LOG(LOG_NO_MESSAGE, 0, 0, 0, 0, 0, 0);
     } else {
-        const struct message *it = next_message();
-        int count = it->size < reception_nbytes ? it->size : reception_nbytes;
-        WRITES(payload, count);
-        memcpy(payload, it->payload, (size_t)count);
+        move_kept(payload, reception_nbytes, __builtin_return_address(0));
     }
 }
 
+/* In each run the memory of malloc is without these messages, so that its pieces have the same numbers. */
 int __wrap_bsp_hpmove(void **tag_ptr, void **payload_ptr)
 {
     const struct message *it;
-    if (!keeps_queue())
+    if (!keeps_queue(1))
         return __real_bsp_hpmove(tag_ptr, payload_ptr);
     if (queue.next == queue.count)
         return -1;
@@ -658,35 +739,87 @@ static void end_log(void)
     write_log();
 }
 
-typedef unsigned __attribute__((may_alias)) any_word;
+/* What is told of the variables: a sum, how many blocks have something else than 0, and these, each as its address, its size and its bytes up
+   to a whole word. If they are too many, ALL stands for their number, and none of them is told. */
+#define ALL ((unsigned)-1)
+enum { BLOCK = 64, MOST_OF_ALL_RANKS = 1 << 20 };
+static struct {
+    unsigned sum, count;
+    any_word *next, *end;
+} variables;
 
-static unsigned sum_with(unsigned sum, unsigned more)
+static void add_word(unsigned word)
 {
-    return (sum ^ more ^ more >> 15) * 16777619u;
+    variables.sum = (variables.sum ^ word ^ word >> 15) * 16777619u;
+    if (variables.next < variables.end)
+        *variables.next++ = word;
 }
 
-/* Tells a sum over the variables, from which it is seen whether two runs end with the same ones. */
-static void tell_sum(void)
+static void add_block(const unsigned char *at, unsigned size)
 {
-    const struct cut *it, *end = bsp_choices.cut + bsp_choices.cuts;
-    unsigned sum = 2166136261u;
-    for (it = bsp_choices.cut; it < end; it++) {
-        const unsigned char *at = (const unsigned char *)(size_t)it->from, *last = (const unsigned char *)(size_t)it->to;
-        for (; at < last && (size_t)at % sizeof sum != 0; at++)
-            sum = sum_with(sum, *at);
-        for (; last - at >= (int)sizeof sum; at += sizeof sum)
-            sum = sum_with(sum, *(const any_word *)at);
-        for (; at < last; at++)
-            sum = sum_with(sum, *at);
+    unsigned i, part, word;
+    if (variables.end - variables.next < (long)(2 + (size + 3) / 4)) {
+        variables.count = ALL;
+        variables.end = variables.next;
     }
-    tell_record(RECORD_SUM, sum, "", 0);
+    variables.count += variables.count != ALL;
+    add_word((unsigned)(size_t)at);
+    add_word(size);
+    for (i = 0; i + 4 <= size && (size_t)at % 4 == 0; i += 4)
+        add_word(*(const any_word *)(at + i));
+    for (; i < size; i += 4) {
+        for (word = 0, part = 0; part < 4 && i + part < size; part++)
+            word |= (unsigned)at[i + part] << 8 * part;
+        add_word(word);
+    }
+}
+
+/* Whether a whole block at a multiple of its size has nothing but 0. Most of large areas is never used. */
+static inline int is_zero_block(const unsigned char *at)
+{
+    const any_word *it = (const any_word *)at;
+    unsigned found = 0;
+#pragma GCC unroll 16
+    for (unsigned i = 0; i < BLOCK / sizeof *it; i++)
+        found |= it[i];
+    return found == 0;
+}
+
+static int is_zero(const unsigned char *at, unsigned size)
+{
+    while (size > 0 && *at == 0)
+        at++, size--;
+    return size == 0;
+}
+
+/* Tells of the variables, so that it is seen whether two runs end with the same ones, and mostly in what they differ. */
+static void tell_variables(void)
+{
+    const struct cut *it, *last = bsp_choices.cut + bsp_choices.cuts;
+    unsigned room_of_rank = (unsigned)MOST_OF_ALL_RANKS / (unsigned)bsp_nprocs();
+    any_word *first = (any_word *)record.bytes;
+    variables.sum = 2166136261u;
+    variables.next = first + 1;
+    variables.end = first + (room_of_rank < MOST_RECORDED ? room_of_rank : MOST_RECORDED) / sizeof *first;
+    for (it = bsp_choices.cut; it < last; it++) {
+        const unsigned char *at = (const unsigned char *)(size_t)it->from, *end = (const unsigned char *)(size_t)it->to;
+        while (at < end) {
+            unsigned size = BLOCK - (unsigned)((size_t)at % BLOCK);
+            size = size < (unsigned)(end - at) ? size : (unsigned)(end - at);
+            if (size == BLOCK ? !is_zero_block(at) : !is_zero(at, size))
+                add_block(at, size);
+            at += size;
+        }
+    }
+    *first = variables.count;
+    write_record(RECORD_SUM, variables.sum, (int)((char *)(variables.count == ALL ? first + 1 : variables.next) - record.bytes));
 }
 
 int __wrap_bsp_end(void)
 {
     end_log();
     if (bsp_choices.is_summed && bsp_part == BSP_WITHIN)
-        tell_sum();
+        tell_variables();
     return __real_bsp_end();
 }
 
@@ -705,6 +838,7 @@ void __wrap_bsp_sync(void)
     room.high = room.end;
     here.superstep++;
     here.calls = here.pieces = bsp_requested = 0;
+    begin_superstep();
     queue.is_kept = 0;
     queue.received_tag = queue.tag;
     queue.tag = queue.next_tag;

@@ -1,6 +1,6 @@
-/* What map, set, their unordered kinds, lists and shared pointers of GCC's standard library need linked. map and set are red-black
-   trees, and the unordered kinds are tables of a prime number of lists. GCC's library
-   with these is for the host alone. */
+/* The functions that map, set, their unordered kinds, lists and shared pointers of GCC's standard library need to be linked. map and set
+   are red-black trees, and the unordered kinds are tables with a prime number of lists. GCC's library has these functions for the host
+   alone. */
 #include <list>
 #include <map>
 #include <memory>

@@ -1,4 +1,4 @@
-/* The functions of ctype.h where char has a sign. picolibc's take numbers of bytes alone. These, and the table that its macros read, take
+/* The functions of ctype.h for a signed char. picolibc's take numbers of bytes alone. These, and the table that its macros read, take
    a char below 0 too, which is of no kind: so that isalpha(text[i]) answers for every text. */
 #include <ctype.h>
 

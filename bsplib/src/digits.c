@@ -1,4 +1,4 @@
-/* Numbers of the kind double as decimal digits, and back, by whole numbers alone. picolibc 1.8 gives at most 17 digits of a double. */
+/* Converts double to decimal digits and back, with integers only. picolibc 1.8 gives at most 17 digits of a double. */
 #include "digits.h"
 
 #include <string.h>

@@ -1,4 +1,4 @@
-/* Numbers of the kind double as decimal digits, and back, both exact. */
+/* Converts double to decimal digits and back, both exactly. */
 #ifndef BSP_DIGITS_H
 #define BSP_DIGITS_H
 

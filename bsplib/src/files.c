@@ -262,7 +262,7 @@ WEAK int open(const char *name, int flags, ...)
 {
     struct bsp_file *file;
     if (name == NULL)
-        bsp_stop("a file is opened whose name is NULL, as argv[1] is where the program is given no arguments");
+        bsp_stop("fopen was called with NULL as the name of the file; was the program given too few arguments?");
     file = device_named(name);
     if (file == NULL)
         file = (flags & O_ACCMODE) == O_RDONLY ? readable(name) : writable(name, flags);

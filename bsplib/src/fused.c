@@ -1,4 +1,4 @@
-/* fma and fmaf where nodes have no instruction for them. Those of picolibc round twice, the product and then the sum: its
+/* fma and fmaf for nodes that have no instruction for them. Those of picolibc round twice, the product and then the sum: its
    fma(2.5, -0.7, 1.75) is 0, and not 2^-53. A program may have functions of these names of its own: these are weak.
 
    In a wider format the product is exact. The sum is rounded there, but what that lost is known, and where it lost something its last digit is

@@ -1,4 +1,4 @@
-/* malloc and its like, instead of picolibc's. A request that is refused is told to bsprun, and a word stands behind each block that
+/* malloc, free and their kin, instead of picolibc's. A request that is refused is told to bsprun, and a word stands behind each block that
    nobody has reason to write, which free looks at, and each bsp_sync where bsprun --warn asks for it. */
 #include <errno.h>
 #include <malloc.h>

@@ -16,7 +16,7 @@ static void must_be_size(int nbytes)
 static void must_be_rank(int root)
 {
     if (root < 0 || root >= bsp_nprocs())
-        bsp_stop_with("a collective function is called with a root that is no rank: ", root, "");
+        bsp_stop_with("a collective function is called with a root that is not a rank: ", root, "");
 }
 
 /* Registers `blocks` blocks of nbytes at `area` for the superstep that begins with the return of this function. */

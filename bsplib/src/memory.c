@@ -1,4 +1,4 @@
-/* memcpy, memmove and memset by words, where what they are given begins equally far behind one. picolibc's take six instructions for each
+/* memcpy, memmove and memset, by words if both addresses have the same alignment. picolibc's take six instructions for each
    byte. GCC makes calls of these out of loops, as of one that copies doubles. A program may have functions of these names of its own: these
    are weak. */
 #include <stddef.h>

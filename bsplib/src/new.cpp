@@ -1,4 +1,4 @@
-/* What programs in C++ need of a system besides what C needs: memory, and a line if a virtual function is called that is not there. It is
+/* What C++ programs need from a system beyond C: memory, and a message if a pure virtual function is called. It is
    made of no header of C++, which may be missing. */
 #include <stddef.h>
 

@@ -1,6 +1,6 @@
-/* Functions that print a text, which are given NULL where a program takes a text for granted: of bspcc --check, where the linker takes each
-   of these instead of the function whose name it has after __wrap_. Without it there is no test, and what stands at address 0 is
-   printed. */
+/* With bspcc --check: functions that print a string, and that report NULL instead. The linker calls each of these instead of the function
+   whose name comes after __wrap_.
+   Without it there is no test, and the bytes at address 0 are printed. */
 #include <stdio.h>
 
 #include "machine.h"

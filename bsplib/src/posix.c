@@ -1,4 +1,4 @@
-/* What programs ask of a system besides files, and picolibc does not have. Names are fixed, a sleep is over at once, and
+/* Functions of POSIX besides files that picolibc does not have. Names are fixed, a sleep is over at once, and
    times are 0, so that a run is the same each time and on every host. All of it is weak, since a program may have functions of these names.
    */
 #include <err.h>

@@ -1,4 +1,4 @@
-/* vfprintf, below printf and all that are like it, instead of picolibc's. Every digit of a double is as the number has it, and a
+/* vfprintf, on which printf and its kin are built, instead of picolibc's. Every digit of a double is as the number has it, and a
    long double is printed as the double that is nearest to it. */
 #include <errno.h>
 #include <limits.h>

@@ -1,6 +1,6 @@
-/* Readers of numbers, which are given NULL where a program takes an argument for granted. picolibc's would read what stands at address 0. A
-   number that is too large for a `long` is noted, which has 64 bits elsewhere. The linker puts each of these in the place of the function
-   whose name it has behind __wrap_. */
+/* Functions that read a number from a string, and report NULL, which a program may get for a missing argument. picolibc's read the bytes at
+   address 0. A number is noted if it is too large for a `long`, which has 64 bits elsewhere. The linker calls each of these instead of the
+   function whose name comes after __wrap_. */
 #include <errno.h>
 #include <inttypes.h>
 #include <limits.h>

@@ -1,4 +1,4 @@
-/* Records for bsprun, and notes of what is to be told of a run: of these no C library knows. */
+/* Records for bsprun: files, and notes about the run. */
 #include <string.h>
 
 #include "machine.h"

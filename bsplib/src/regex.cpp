@@ -1,4 +1,4 @@
-/* What <regex> wants linked: the order of texts in the locale C, and its errors. */
+/* The functions that <regex> needs to be linked: the order of strings in the locale C, and its errors. */
 #include <cstring>
 #include <regex>
 

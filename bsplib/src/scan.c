@@ -1,4 +1,4 @@
-/* vfscanf, below scanf and all that are like it, and strtod, instead of picolibc's. A number with a point is the nearest one to all
+/* vfscanf, on which scanf and its kin are built, and strtod, instead of picolibc's. A number with a point is the nearest one to all
    of its digits. */
 #include <errno.h>
 #include <stdarg.h>

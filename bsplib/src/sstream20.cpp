@@ -1,4 +1,4 @@
-/* The members of string streams that C++20 has and earlier standards have not, such as str() &&. The headers of GCC's standard library have
+/* The members of string streams that only C++20 has, such as str() &&. The headers of GCC's standard library have
    them in a library that is for the host. This file alone is compiled as C++20. */
 #include <sstream>
 

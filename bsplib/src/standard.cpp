@@ -1,4 +1,4 @@
-/* What the headers of C++'s standard library want linked: texts, complex numbers, and a function for each exception that they throw. */
+/* The functions that headers of the C++ standard library need to be linked: strings, complex numbers, and one for each exception. */
 /* Where nothing can be read, operator>> leaves what it is given as it is. */
 #pragma GCC diagnostic ignored "-Wmaybe-uninitialized"
 #include <complex>

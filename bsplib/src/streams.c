@@ -1,4 +1,4 @@
-/* The standard streams, which picolibc leaves to a system, and its functions of streams that know none of these. */
+/* The standard streams, which picolibc leaves to the system, and functions of its streams that do not know them. */
 #include <errno.h>
 #include <limits.h>
 #include <stdio-bufio.h>

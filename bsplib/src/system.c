@@ -1,4 +1,4 @@
-/* Start, end, memory and the standard streams of a node: what lies under a C library, and picolibc leaves to a system. */
+/* Start, end, memory and standard streams of a node, which picolibc leaves to the system. */
 #include "machine.h"
 
 unsigned bsp_memory_size __attribute__((section(".data"))) = 0; /* set before anything else runs */
@@ -201,9 +201,9 @@ void bsp_stop_for_null(const char *function)
 {
     begin_line();
     put_text(function);
-    put_text(" is given NULL in the place of a text");
+    put_text(" was called with NULL instead of a string");
     if (argument_count == 1)
-        put_text(", as argv[1] is, since the program has no arguments: they stand behind its name, as in bsprun PROGRAM 100");
+        put_text(": argv[1] is NULL, because the program got no arguments. Give them after its name, as in bsprun PROGRAM 100");
     end_line();
 }
 

@@ -1,4 +1,4 @@
-/* What GCC's runtime of exceptions takes from a system: memory, the tables of functions, and what is said of an exception that nobody catches.
+/* What GCC's exception runtime needs from a system: memory, the tables of functions, and a message for an uncaught exception.
    The rest of it is in vendor/libstdc++. */
 #include <cstdio>
 #include <cstdlib>

@@ -1,4 +1,4 @@
-/* What std::put_time and std::get_time want linked: the names and the forms of times in the locale C. */
+/* The functions that std::put_time and std::get_time need to be linked: names and formats of times in the locale C. */
 #include <ctime>
 #include <locale>
 

@@ -1,4 +1,4 @@
-/* What programs of Unix call, and picolibc does not have. Names of users and of hosts are fixed, locks are there at once, and mapped memory is
+/* Functions of Unix that picolibc does not have. Names of users and of hosts are fixed, locks are there at once, and mapped memory is
    of the heap. All of it is weak, since a program may have functions of these names. */
 #include <arpa/inet.h>
 #include <errno.h>

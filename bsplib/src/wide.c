@@ -1,4 +1,4 @@
-/* Numbers in wide texts, and wide texts as bytes, instead of picolibc's. Those leave the end of a text that has no number behind its
+/* Numbers in wide strings, and wide strings as bytes, instead of picolibc's. Those leave the end of a text that has no number behind its
    blanks, take `0x` without figures for none, cut a character that has no byte, and have letters beyond those of the locale. A program may
    have functions of these names of its own: these are weak. */
 #include <errno.h>

@@ -19,7 +19,7 @@ KEPT = 1 << 11
 # and in a dialogue, which tells more.
 MARK = b"what-was-written-ends-here"
 MARKED = b"\nrefused: BadCommand"
-NO_LINE = b": there is no such line; help tells the lines"
+NO_LINE = b": there is no such line; help lists the lines"
 STATES = ("running", "synced", "ended", "aborted", "exhausted")
 FIRST = re.compile(
     f"rank [0-9]+ pc [0-9a-f]{{8}} ticks [0-9]+ state (?:{'|'.join(STATES)}|fault {one_of(FAULTS_OF_STEPS)})".encode()
@@ -76,7 +76,7 @@ NAMES = {*SPOKEN, b"nodes"}
 
 
 class Asked(NamedTuple):
-    """What a line asks for: its first word, and its numbers. A point has one where it is a superstep, and two at a rank."""
+    """What a line asks for: its first word, and its numbers. A point has one if it is a superstep, and two at a rank."""
 
     name: bytes
     numbers: Tuple[int, ...]
@@ -98,7 +98,7 @@ def number_of(word: bytes, bits: int) -> Optional[int]:
 
 @functools.lru_cache(maxsize=KEPT)
 def asked(line: bytes, is_dialogue: bool = False) -> Optional[Asked]:
-    """What a line asks for; none where it asks for nothing. An empty line has an empty word."""
+    """What a line asks for; none if it asks for nothing. An empty line has an empty word."""
     forms = SPOKEN if is_dialogue else FORMS
     words = [word for word in line.split(b" ") if word]
     if not words:
@@ -180,7 +180,7 @@ class Judge:
         """Where the nodes of the lowest ranks are, and how many more there are."""
         nodes = self.machine.nodes
         places = [self.take(PLACE) for _ in range(min(nodes, PLACES))]
-        more = nodes <= PLACES or self.take(b"and %d more: where tells all" % (nodes - PLACES)) is not None
+        more = nodes <= PLACES or self.take(b"and %d more: where shows all" % (nodes - PLACES)) is not None
         return more and [place and int(place[1]) for place in places] == list(range(len(places)))
 
     def judge(self, line: bytes) -> None:

@@ -77,7 +77,7 @@ class Report:
 
 
 def outcome_of(line: bytes) -> Optional[Tuple[int, List[int]]]:
-    """The status of an outcome, and the numbers in it; none of a line that is no outcome."""
+    """The status of an outcome, and the numbers in it; none of a line that is not an outcome."""
     for pattern, status in PATTERNS:
         found = pattern.fullmatch(line)
         if found:

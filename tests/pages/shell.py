@@ -19,7 +19,7 @@ CACHE = "cache"
 BY_CONTENT = ("bspcc", "bspemu/modules")
 # Two lines that the debugger refuses, which changes nothing; so its answers to the lines between them can be told apart.
 MARK = "-\nclear superstep 0xffffffffffffffff\n"
-MARKED = "refused: BadCommand: there is no such line; help tells the lines\nrefused: NoSuchBreak\n"
+MARKED = "refused: BadCommand: there is no such line; help lists the lines\nrefused: NoSuchBreak\n"
 # Those that write their prompt also where no person is.
 GDB, LINES = "(gdb) ", "(bsp) "
 

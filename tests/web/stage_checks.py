@@ -210,8 +210,8 @@ def compared(look: Look, session: Session, formats: Formats, memory: int = 1 << 
         is_value = form and box["address"] is not None and not box["cells"][0][2].startswith(("→", "0x", "NULL"))
         for at, size, text in box["cells"] if is_value else ():
             content = session.memory(box["rank"], box["address"] + at, size, memory)
-            if text.endswith(("more", "all 0")):
-                if text.endswith("all 0") and any(content):
+            if text.endswith(("more", "× 0")):
+                if text.endswith("× 0") and any(content):
                     return count, f"{box['name']} of rank {box['rank']} is not {text}"
             elif not is_right(text, content, form or ""):
                 return count, f"{box['name']} of rank {box['rank']} at {at} shows {text}, and has {content.hex()}"
@@ -293,7 +293,7 @@ def totals(look: Look) -> str:
         done = subprocess.run(asked, stdout=subprocess.PIPE, text=True, check=True)
         total = done.stdout.splitlines()[-2].split()[1]
         shown = look.page.run("$('total').textContent").replace(",", "")
-        if not shown.endswith(f"in all {total}."):
+        if not shown.endswith(f"= {total}."):
             return f"g {g}, l {l}: {shown}, and not {total}"
     look.page.run("$('g-slider').value = '40'; $('g-slider').oninput()")
     return "" if look.page.run("$('g').value") == "99" else "the slider does not set g"
@@ -492,10 +492,11 @@ def named(look: Look) -> str:
     unnamed = look.page.run(UNNAMED)
     look.page.run("document.activeElement.blur()")
     reached = []
-    for _ in range(40):
+    for _ in range(48):
         look.page.press("Tab")
         reached.append(look.page.run("document.activeElement.id"))
-    missing = {"first", "on", "superstep", "line-rank", "listing", "stage", "plain", "g", "l-slider", "output", "nodes", "input", "run"} - set(reached)
+    wanted = "first on superstep stop line-rank listing stage arrows size plain g l-slider output nodes input run"
+    missing = set(wanted.split()) - set(reached)
     return unnamed or " ".join(sorted(missing))
 
 

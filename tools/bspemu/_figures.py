@@ -1,4 +1,4 @@
-"""Figures of matplotlib that show themselves in a notebook."""
+"""Figures of matplotlib that a notebook shows."""
 
 from __future__ import annotations
 

@@ -1,4 +1,4 @@
-"""Tables of pandas, with one kind of row each, from what the tools write."""
+"""Tables of pandas, each with one kind of row, from the output of the tools."""
 
 from __future__ import annotations
 

@@ -1,4 +1,4 @@
-"""The cell magic `%%bsp`: a cell of C is compiled and run, and its output and pictures stand below it."""
+"""The cell magic `%%bsp`: compiles and runs a cell of C, and shows its output and pictures below it."""
 
 from __future__ import annotations
 

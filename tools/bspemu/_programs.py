@@ -1,4 +1,4 @@
-"""The commands of a wheel that are no Python: the emulator and the compiler."""
+"""The commands of a wheel that are not Python: the emulator and the compiler."""
 
 from __future__ import annotations
 

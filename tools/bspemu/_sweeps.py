@@ -103,7 +103,7 @@ def paired(value: Union[str, Tuple[Price, Price]]) -> str:
     """Two prices that belong together, for a command line."""
     both: List[Price] = [*value.split(":")] if isinstance(value, str) else [*value]
     if len(both) != 2:
-        raise BspError(f"{value!r} are no prices that belong together: give a pair as ('31/8', 1193), or a text as '31/8:1193'")
+        raise BspError(f"{value!r} is not a pair of prices: give a pair as ('31/8', 1193), or a text as '31/8:1193'")
     return ":".join(map(priced, both))
 
 

@@ -1,4 +1,4 @@
-"""The tools of the repository or of the wheel, started by this Python."""
+"""Starts the tools of the repository or of the wheel with this Python."""
 
 from __future__ import annotations
 
@@ -109,5 +109,5 @@ def exact(value: Price) -> Number:
     try:
         found = Fraction(repr(value)) if isinstance(value, float) else Fraction(value)
     except (ValueError, TypeError, ZeroDivisionError) as error:
-        raise BspError(f"{value!r} is no price: give a number as 4, 3.875 or '31/8'") from error
+        raise BspError(f"{value!r} is not a price: give a number such as 4, 3.875 or '31/8'") from error
     return found.numerator if found.denominator == 1 else found

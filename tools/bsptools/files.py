@@ -16,7 +16,7 @@ from .refusals import Refused, Unfit, about
 MOST_LINKS = 40
 # Of a file that the tools run or trust later. Who else may read it is up to its user's umask.
 OWN_MODE = 0o644
-GONE = "the folder that this was started in is gone"
+GONE = "the current folder no longer exists"
 
 
 class Folder(NamedTuple):
@@ -75,7 +75,7 @@ def whole(value: object, most: int = 1 << 128) -> int:
     """A whole number of a file, from 0 to the most that it can be: costs are sums of products, so that they may have many digits."""
     text = str(value)
     if not (text.isascii() and text.isdigit() and len(text) <= 40 and int(text) <= most):
-        raise Unfit(f"{text[:40]!r} is no whole number up to {most}")
+        raise Unfit(f"{text[:40]!r} is not a whole number up to {most}")
     return int(text)
 
 
@@ -103,7 +103,7 @@ def as_text(path: str) -> Iterator[str]:
 
 @contextlib.contextmanager
 def replaced(path: str | os.PathLike[str]) -> Iterator[str]:
-    """A file to write, which takes the place of this one at the end of the block, so that this one is never there in part. Where nothing
+    """A file to write, which takes the place of this one at the end of the block, so that this one is never there in part. If nothing
     is written, nothing is replaced.
 
     A link stays, and leads to the new file. What is not a regular file, as a pipe, is written to as it is. In a folder where others may rename
@@ -203,7 +203,7 @@ def is_here() -> bool:
 
 
 def absolute(path: str) -> str:
-    """A path from the topmost folder on; a refusal where it is one from the folder that this was started in, and that is gone."""
+    """A path from the topmost folder on; a refusal if it is one from the folder that this was started in, and that is gone."""
     if not os.path.isabs(path) and not is_here():
         raise Refused(f"{path}: {GONE}: give a path from / on, or start it elsewhere")
     return os.path.abspath(path)

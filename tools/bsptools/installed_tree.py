@@ -1,4 +1,4 @@
-"""What scripts/install puts below a prefix: a record of it, and changes that can be broken off at any time.
+"""The files that scripts/install puts below a prefix: their record, and changes that can be interrupted at any time.
 
 The record is written before anything else. New files stand beside the old ones until all are there; then each gets its name. So what is
 broken off before that leaves the installation of before, and what is killed in any place can be made again, and be taken away.

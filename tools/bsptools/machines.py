@@ -29,7 +29,7 @@ class Machine(NamedTuple):
 
 
 def machine_of(line: str) -> tuple[str, Machine] | None:
-    """The name and the machine of a line of a table, or none where it is not of that form. g is that of a byte, exactly."""
+    """The name and the machine of a line of a table, or none if it is not of that form. g is that of a byte, exactly."""
     words = line.split(None, 6)
     if len(words) < 7:
         return None
@@ -107,7 +107,7 @@ def family_named(name: str) -> Family:
 
 def unknown(name: str, known: dict[str, Machine]) -> str:
     """A line that says which machines there are."""
-    return f"{name!r} is no machine that is known: {', '.join(known)}; {TABLE} has them"
+    return f"{name!r} is not a known machine; these are: {', '.join(known)}; {TABLE} has them"
 
 
 class Take(argparse.Action):

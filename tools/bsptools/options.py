@@ -14,17 +14,19 @@ from .refusals import Refused, printable
 # Of a range of numbers.
 MOST_LISTED = 10_000
 UNITS = {"K": 1 << 10, "M": 1 << 20, "G": 1 << 30}
-# Options for the compiler, with what each says of a C program.
+# Options for the compiler, with the name of the value of each and what it does.
 COMPILED = {
-    "-D": "define a macro",
-    "-I": "add a folder for headers",
-    "-O": "optimization level",
-    "-l": "link with a library, as -lm",
-    "-W": "turn on a warning, as -Wall",
-    "-f": "compiler option, as -fopenmp",
-    "-m": "target option, as -march=rv32imc",
-    "-std": "language standard, as -std=c99",
+    "-D": ("NAME[=VALUE]", "define a macro"),
+    "-I": ("DIR", "search DIR for headers"),
+    "-O": ("LEVEL", "optimization level, as -O2"),
+    "-l": ("LIBRARY", "link with a library, as -lm"),
+    "-W": ("WARNING", "turn on a warning, as -Wall"),
+    "-f": ("NAME", "compiler option, as -fwrapv"),
+    "-m": ("NAME", "target option, as -march=rv32imc"),
+    "-std": ("STANDARD", "language standard, as -std=c99"),
 }
+# The sections of a help, in the order in which they are shown.
+THE_PROGRAM, MISTAKES, COMPILING, MACHINE, COSTS, OUTPUT = "the program", "mistakes", "compiling a .c program", "the machine", "costs", "output"
 # Those of one word, which others begin as: -pedantic begins as -p, which is a number of nodes.
 WHOLE_WORDS = ("-g", "-g3", "-ggdb", "-w", "-pedantic", "-pedantic-errors", "-pthread")
 # Words that are hardly meant for a program: where compilers are called, they may stand behind it.
@@ -52,19 +54,39 @@ class Compiled(argparse.Action):
         found.compiled = [*(found.compiled or []), word]
 
 
+class Layout(argparse.HelpFormatter):
+    """Lays out a help. Paragraphs of a description are filled; one that begins with two blanks is a list of examples, and stays as it is."""
+
+    def _fill_text(self, text: str, width: int, indent: str) -> str:
+        return "\n\n".join(
+            part if part.startswith("  ") else argparse.HelpFormatter._fill_text(self, part, width, indent) for part in text.split("\n\n")
+        )
+
+
 class Parser(argparse.ArgumentParser):
     """A reader of a tool's command line, which refuses a wrong one."""
 
+    _group: argparse._ArgumentGroup | None = None
+
     def __init__(self, name: str, **given: Any) -> None:
-        super().__init__(prog=name, allow_abbrev=False, **given)
+        super().__init__(prog=name, allow_abbrev=False, formatter_class=Layout, **given)
         self._words: list[str] = []
+        self._sections: dict[str, argparse._ArgumentGroup] = {}
         self.add_argument("--version", action=Version, nargs=0, help="print the versions, the commit if it is known, and what was proved")
 
     def add_argument(self, *names: Any, **given: Any) -> argparse.Action:
         """Adds an option. No value of one that names files is empty: the folder that a tool is started in would stand for it."""
         if given.get("metavar") in NAMING and given.get("action", "append") == "append":
             given.setdefault("type", named)
-        return super().add_argument(*names, **given)
+        is_operand = not names[0].startswith("-")
+        return super().add_argument(*names, **given) if self._group is None or is_operand else self._group.add_argument(*names, **given)
+
+    def section(self, *titles: str) -> None:
+        """Shows the options that follow in the last of these sections of the help. Sections are in the order in which they are first named."""
+        for title in titles:
+            if title not in self._sections:
+                self._sections[title] = self.add_argument_group(title)
+        self._group = self._sections[titles[-1]]
 
     def parse_known_args(self, args: Any = None, namespace: Any = None) -> Any:
         """Reads a command line, whose words a refusal may name."""
@@ -97,48 +119,53 @@ class Parser(argparse.ArgumentParser):
         return found
 
     def add_number(self, *names: str, what: str, least: int, most: int, unit: int = 1, **given: Any) -> None:
-        """An option with a whole number of this range, which is a number of bytes where it is said to be BYTES."""
+        """An option with a whole number of this range, which is a number of bytes if it is said to be BYTES."""
         reader = number(what, least, most, unit, given["metavar"] == "BYTES")
         self.add_argument(*names, type=reader, **given)
 
     def add_program(self) -> None:
         """A program and its nodes, input, files and arguments, as each tool has them that makes one run."""
         add = self.add_argument
+        self.section(THE_PROGRAM)
         add("-n", "--nodes", type=P, default=os.environ.get("BSP_PROCS") or limits.NODES, metavar="P",
             help="number of nodes; default: BSP_PROCS in the environment, or 1")  # fmt: skip
         add("-np", "-npes", "-p", dest="nodes", type=P, default=argparse.SUPPRESS, metavar="P", help="same as -n")
-        add("--input", metavar="FILE", help="file that the program reads as its input")
+        add("--input", metavar="FILE", help="file that the program reads as its standard input")
         add("--file", metavar="FILE", action="append", default=[], help="file that the program can open with fopen; can be repeated")
         add("--files", metavar="DIR", action="append", default=[], help="give the program all files of this folder, as --file does; can be repeated")
         add("--argv0", metavar="TEXT", help="argv[0] of main; default: PROGRAM as you typed it")
-        add("--strict", action="store_true", help="report everything that looks like a mistake: GCC's warnings, --check and -Og -g"
-            " for a .c program; bsprun also turns on --warn")  # fmt: skip
+        add("--format", choices=KINDS, help="format of PROGRAM; default: as its content or its name shows")
+        self.section(MISTAKES)
+        add("--strict", action="store_true", help="report likely mistakes: compile a .c program with --check, -Og, -g and GCC's warnings,"
+            " and search the run (bsprun --warn)")  # fmt: skip
         add("--check", action="store_true", help="check integer overflow, indices, pointers and shifts of a .c program as it runs")
-        for option, what in COMPILED.items():
-            add(option, dest="compiled", action=Compiled, metavar="WORD", help=what)
-        add(*WHOLE_WORDS, dest="compiled", action=Compiled, nargs=0, help="passed to the compiler")
-        add("--format", choices=KINDS, help="what PROGRAM is, if neither its content nor its name shows it")
+        self.section(COMPILING)
+        for option, (metavar, what) in COMPILED.items():
+            add(option, dest="compiled", action=Compiled, metavar=metavar, help=what)
+        add(*WHOLE_WORDS, dest="compiled", action=Compiled, nargs=0, help="passed to bspcc; -pthread has no effect")
+        self.add_number("--stack", what="the room of the stack in bytes", least=limits.LEAST_STACK, most=limits.MOST_STACK,
+            metavar="BYTES", help="stack of a .c program; default 1M, or 128K if --memory is less than 4M")  # fmt: skip
         self.set_defaults(bspemu=None, found=[], is_here=False)
         add("program", metavar="PROGRAM", help="the program to run")
         add("args", metavar="ARGS", nargs=argparse.REMAINDER, help="arguments of main").required = False
 
     def add_machine(self) -> None:
         """The settings of nodes that all runs have."""
+        self.section(MACHINE)
         self.add_number("--limit", what="the limit of instructions", least=1, most=limits.MOST_TICKS, default=limits.MOST_TICKS,
             metavar="COUNT", help="most instructions that a node may execute; default 2^40")  # fmt: skip
         self.add_number("--memory", what="the memory of a node in bytes", least=limits.PAGE, most=limits.MOST_MEMORY, unit=limits.PAGE,
             default=limits.MEMORY, metavar="BYTES", help="memory of each node; default 16M. More makes the machine large, as --large does")  # fmt: skip
         self.add_argument(limits.OPTION, action="store_true", help="raise the limits: 65536 nodes, 2G of memory a node, 16777216 requests a superstep."
             " Automatic if the nodes or the memory need it")  # fmt: skip
-        self.add_number("--stack", what="the room of the stack in bytes", least=limits.LEAST_STACK, most=limits.MOST_STACK,
-            metavar="BYTES", help="stack of a .c program; default 1M")  # fmt: skip
-        self.add_argument("--float", action="store_true", help="give nodes floating-point units. Automatic for programs of bspcc, and for"
-            " assembly with floating-point instructions")  # fmt: skip
-        self.add_argument("--atomic", action="store_true", help="give nodes the instructions of extension A. Automatic for programs that were"
-            " compiled for these, and for assembly with these")  # fmt: skip
+        self.add_argument("--float", action="store_true", help="give nodes the floating-point instructions of RISC-V, extensions F and D."
+            " Automatic for programs of bspcc, and for assembly that has them")  # fmt: skip
+        self.add_argument("--atomic", action="store_true", help="give nodes the atomic instructions of RISC-V, extension A. Automatic for"
+            " programs that were compiled for them, and for assembly that has them")  # fmt: skip
 
     def add_prices(self, g: Callable[[str], object] | None = None, l: Callable[[str], object] | None = None) -> None:
         """g and l, where each is one number: a whole one, or what these readers take."""
+        self.section(COSTS)
         self.add_argument("--g", type=g or G, default=limits.G, metavar="TICKS", help="price of a byte of h; default 1")
         self.add_argument("--l", type=l or L, default=limits.L, metavar="TICKS", help="price of the end of a superstep; default 0")
 
@@ -150,7 +177,7 @@ class Parser(argparse.ArgumentParser):
 def named(text: str) -> str:
     """A name of a file or folder."""
     if not text or "\0" in text:
-        raise argparse.ArgumentTypeError(f"{text!r} is no name of a file or folder")
+        raise argparse.ArgumentTypeError(f"{text!r} is not the name of a file or folder")
     return text
 
 

@@ -46,7 +46,7 @@ def number(text: str, spelling: re.Pattern[str] = PRICE) -> Exact | None:
 
 
 def spelled(value: Exact) -> str:
-    """A number as tables have it: as a decimal where that ends, and as a fraction where it does not. Either is exact."""
+    """A number as tables have it: as a decimal where that ends, and as a fraction if it does not. Either is exact."""
     rest, twos, fives = Fraction(value).denominator, 0, 0
     while rest % 2 == 0:
         rest, twos = rest // 2, twos + 1
@@ -103,5 +103,5 @@ def of_table(text: object, spelling: re.Pattern[str] = PRICE) -> Exact:
     """A price, or with the form of a total that, of a table; another text is refused."""
     found = number(str(text), spelling)
     if found is None or (spelling is PRICE and found > MOST_PRICE):
-        raise Unfit(f"{str(text)[:40]!r} is no number as 4, 3.875 or 31/8")
+        raise Unfit(f"{str(text)[:40]!r} is not a number such as 4, 3.875 or 31/8")
     return found

@@ -1,4 +1,4 @@
-"""How a tool says what it cannot do; exit statuses; lines in which no name is a command to a terminal."""
+"""How a tool reports what it cannot do: exit statuses, and lines without control characters."""
 
 from __future__ import annotations
 

@@ -1,4 +1,4 @@
-"""What came of runs, kept in files that tell by themselves whether they are as this user's tools wrote them.
+"""Results of runs, kept in files with a seal that shows whether they were changed.
 
 Each has a seal, which follows from the name that it is kept under, from all that it has, and from a key that only this user can read. So
 results that came with a folder of somebody else are not believed. Whoever writes a result needs no key: the ticket of its name is enough,
@@ -21,7 +21,7 @@ from .limits import MOST_TABLE
 from .refusals import Refused, counted
 
 KEY_BYTES, KEY_MODE, OF_OTHERS = 32, 0o600, 0o077
-UNKEPT = "no key can be kept for your results, so that the next start makes them again: set HOME or XDG_STATE_HOME to a folder of yours"
+UNKEPT = "cannot save a key for your results, so the next start will repeat their runs: set HOME or XDG_STATE_HOME to a folder of yours"
 
 
 class Key(NamedTuple):
@@ -43,7 +43,7 @@ def digest(content: bytes) -> str:
 
 @functools.lru_cache(maxsize=None)
 def own_key() -> Key:
-    """This user's key, which is made where there is none; one for this process alone where none can be kept."""
+    """This user's key, which is made if there is none; one for this process alone if none can be kept."""
     folder = own_folders.state("bspemu")
     if folder:
         path = os.path.join(folder, "key")
@@ -59,7 +59,7 @@ def own_key() -> Key:
 
 
 def _key_in(path: str) -> bytes:
-    """The key in a file; nothing where it has none, or where others may know it."""
+    """The key in a file; nothing if it has none, or where others may know it."""
     with contextlib.suppress(Refused, FileNotFoundError, ValueError):
         found = os.lstat(path)
         secret = bytes.fromhex(own_content(path, 3 * KEY_BYTES).decode())
@@ -98,7 +98,7 @@ def seal(with_ticket: str, record: Any) -> str:
 
 
 def found(path: str | os.PathLike[str], name: str) -> Any:
-    """What is kept in a file under a name; None where there is nothing, or it is not what this user's tools wrote."""
+    """What is kept in a file under a name; None if there is nothing, or it is not what this user's tools wrote."""
     with contextlib.suppress(Refused, OSError, ValueError, TypeError, KeyError, RecursionError):
         known = json.loads(own_content(path, MOST_TABLE))
         return known["record"] if hmac.compare_digest(known["seal"], seal(ticket(name), known["record"])) else None
@@ -122,4 +122,4 @@ def keep(path: str | os.PathLike[str], with_ticket: str, record: Any) -> None:
 def told_of_others(count: int, folder: str | os.PathLike[str]) -> list[str]:
     """A line where so many results are not believed."""
     was = "was" if count == 1 else "were"
-    return [f"{counted(count, 'result')} in {os.fspath(folder)} {was} not kept with your key, and {was} made again"] * bool(count)
+    return [f"{counted(count, 'result')} in {os.fspath(folder)} {was} not sealed with your key, and {was} made again"] * bool(count)

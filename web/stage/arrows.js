@@ -1,7 +1,8 @@
 // Arrows over the stage, from the bytes that are sent to where they land.
 
-// Where there are more, those between the same two ranks are one.
+// Where there are more, those between the same two ranks are one; and the most that have labels.
 const MOST_ARROWS = 48;
+const MOST_LABELS = 32;
 const MARGIN = 5;
 
 class Arrows {
@@ -17,7 +18,9 @@ class Arrows {
 
   /** @param {any[]} arrows @param {boolean} landed */
   show(arrows, landed) {
-    const shown = arrows.length > MOST_ARROWS ? merged(arrows) : arrows.map((it) => ({ ...it, label: labelOf(it) }));
+    const isMixed = new Set(arrows.map((it) => it.kind)).size > 1;
+    const shown = arrows.length > MOST_ARROWS ? merged(arrows, isMixed) : arrows.map((it) => ({ ...it, label: labelOf(it, isMixed) }));
+    this.hasLabels = shown.length <= MOST_LABELS;
     const box = this.frame.getBoundingClientRect();
     const [width, height] = [this.frame.scrollWidth, this.frame.scrollHeight];
     this.picture.setAttribute("width", String(width));
@@ -49,6 +52,9 @@ class Arrows {
     const path = `M${x1} ${a.y} C${x1 + bend} ${a.y + sag} ${isSelf ? x2 + bend : x2 - bend} ${b.y + sag} ${x2} ${b.y}`;
     const kind = `arrow ${it.kind}${landed ? " landed" : ""}${it.isNow ? " now" : ""}${it.isWrong ? " wrong" : ""}`;
     const line = drawn("path", { d: path, class: kind, "marker-end": it.isWrong ? "url(#wrong)" : it.isNow ? "url(#now)" : "url(#head)" });
+    if (!this.hasLabels && !it.isNow && !it.isWrong) {
+      return [line];
+    }
     const place = this.free((x1 + x2) / 2 + (isSelf ? 20 : 0), (a.y + b.y) / 2 - 4 + 0.75 * sag, it.label.length * 6 + 4);
     const label = drawn("text", { x: place.x, y: place.y, class: kind, "text-anchor": "middle" }, it.label);
     return [line, label];
@@ -72,21 +78,21 @@ function heads() {
   return drawn("defs", {}, head("head"), head("now"), head("wrong"));
 }
 
-/** What stands at an arrow. */
-function labelOf(it) {
+/** What stands at an arrow; its kind too, if there are several kinds, so that colours are not all that tells them apart. */
+function labelOf(it, isMixed) {
   const tag = it.tag === undefined ? "" : `tag ${tagText(it.tag)}, `;
-  return `${tag}${it.bytes} B`;
+  return `${isMixed && tag === "" ? `${it.kind} ` : ""}${tag}${grouped(it.bytes)} B`;
 }
 
 /** A tag as a number if it has four bytes, else as it is. @param {Uint8Array} tag */
 const tagText = (tag) => (tag.length === 4 ? String(signed(numberIn(tag))) : textIn(tag) ?? [...tag].map((it) => it.toString(16).padStart(2, "0")).join(""));
 
-function merged(arrows) {
+function merged(arrows, isMixed) {
   const found = new Map();
   for (const it of arrows) {
     const key = `${it.kind} ${it.from} ${it.to} ${Boolean(it.isWrong)}`;
     const old = found.get(key);
     old === undefined ? found.set(key, { ...it, count: 1 }) : Object.assign(old, { count: old.count + 1, bytes: old.bytes + it.bytes, isNow: old.isNow || it.isNow });
   }
-  return [...found.values()].map((it) => ({ ...it, label: it.count === 1 ? labelOf(it) : `${it.count} × , ${it.bytes} B`.replace(" × ,", "×:") }));
+  return [...found.values()].map((it) => ({ ...it, label: it.count === 1 ? labelOf(it, isMixed) : `${it.count} ${isMixed ? `${it.kind}s` : "×"}: ${grouped(it.bytes)} B` }));
 }

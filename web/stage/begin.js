@@ -50,7 +50,9 @@ async function runAgain(link = "", linked = undefined) {
     say("");
     $("nodes").value = String(machine.nodes);
     $("superstep").max = String(machine.last);
-    $("line-rank").replaceChildren(new Option("all in turn", "all"), ...Array.from({ length: machine.nodes }, (_, k) => new Option(`rank ${k}`, String(k))));
+    const ranks = () => Array.from({ length: machine.nodes }, (_, k) => new Option(`rank ${k}`, String(k)));
+    $("line-rank").replaceChildren(new Option("all in turn", "all"), ...ranks());
+    $("arrows").replaceChildren(new Option("all ranks", "all"), new Option("no rank", "none"), ...ranks());
     costs.begin(machine);
     moves = new Moves(machine, names, stage, listing, costs, program);
     $("columns").hidden = machine.nodes <= MOST_COLUMNS_OF_RANKS;
@@ -76,7 +78,7 @@ function play() {
   $("play").textContent = "Pause";
   $("play").setAttribute("aria-pressed", "true");
   const on = async () => {
-    await moves.beside(1);
+    await ($("play-by").value === "half" ? moves.half() : moves.beside(1));
     if (playing !== undefined && moves.stop.kind !== "over") {
       playing = setTimeout(on, SPEEDS[Number($("speed").value)]);
     } else {
@@ -129,17 +131,53 @@ function connect() {
     const box = $("supersteps").getBoundingClientRect();
     moves?.to(moves.stops.begin(costs.superstepAt((event.clientX - box.left) / box.width)));
   };
-  $("arrows").onchange = () => moves?.seen && moves.arrowsAgain();
-  $("plain").onchange = () => moves?.seen && moves.draw(moves.seen);
+  $("stop").oninput = () => {
+    pause();
+    moves?.list && moves.to(moves.list[Number($("stop").value)]);
+  };
+  $("plain").onchange = drawAgain;
   $("try").onsubmit = (event) => {
     event.preventDefault();
-    void runAgain();
+    void runAgain(stage.view.link());
   };
+  connectStage();
   document.addEventListener("keydown", onKey);
-  addEventListener("resize", () => moves?.seen && moves.arrowsAgain());
+  addEventListener("resize", () => {
+    moves?.seen && costs.draw();
+    moves?.seen && moves.arrowsAgain();
+  });
   addEventListener("beforeprint", beforePrint);
   addEventListener("afterprint", afterPrint);
   addEventListener("hashchange", () => follow(location.hash.slice(1)));
+}
+
+function drawAgain() {
+  moves?.seen && moves.draw(moves.seen);
+}
+
+// What a reader chooses to see of a stop.
+function connectStage() {
+  stage.view.changed = drawAgain;
+  const arrowsAgain = () => {
+    moves?.seen && moves.arrowsAgain();
+    moves?.seen && moves.linkAgain();
+  };
+  $("arrows").onchange = arrowsAgain;
+  $("size").onchange = () => {
+    $("ranks").style.zoom = $("size").value;
+    arrowsAgain();
+  };
+  $("ranks").onclick = (event) => {
+    const [head, fold] = [event.target.closest("th.rank"), event.target.closest(".fold")];
+    if (head !== null) {
+      $("arrows").value = $("arrows").value === head.dataset.rank ? "all" : head.dataset.rank;
+      arrowsAgain();
+    } else if (fold !== null) {
+      stage.view.toggle(fold.closest("td.box").dataset.name);
+    }
+  };
+  $("rows").ontoggle = () => $("rows").open && stage.view.list();
+  $("traffic").ontoggle = () => moves?.seen && moves.traffic();
 }
 
 // The width and the height of a printed page, A4 across, in the browser's pixels, and the width that the page is laid out for.
@@ -224,7 +262,7 @@ async function begin() {
   stage = new Stage(names);
   listing = new Listing($("listing"), $("file"), program.sources);
   $("no-source").hidden = program.sources.length > 0;
-  costs = new Costs(() => {});
+  costs = new Costs(() => moves?.seen && moves.machine.supersteps === costs.supersteps && moves.linkAgain());
   connect();
   await loadMachine();
   const link = location.hash.slice(1);

@@ -3,6 +3,9 @@
 // The most columns of the picture behind the slider; where there are more supersteps, several of them share one, whose dearest is drawn.
 const MOST_COLUMNS = 400;
 const PICTURE_HEIGHT = 48;
+// The pixels that a superstep's number takes below the slider, and those of its number with its cost.
+const NUMBER_WIDTH = 60;
+const COST_WIDTH = 100;
 
 /** The cost of each superstep at these prices. @param {Superstep[]} supersteps @param {bigint} g @param {bigint} l */
 const costOf = (it, g, l) => BigInt(it.most) + g * BigInt(it.h) + l;
@@ -87,19 +90,30 @@ class Costs {
     const h = Math.max(...this.sent, ...this.received);
     const most = Math.max(1, it.most);
     const mostBytes = Math.max(1, it.h, h);
-    $("bars").replaceChildren(...this.ranks.map((rank) => made("tr", "", made("th", "", String(rank)),
-      barCell("work", place.ticks[rank], most, `${grouped(place.ticks[rank])}`),
-      barCell("sent", this.sent[rank], mostBytes, grouped(this.sent[rank])),
-      barCell("received", this.received[rank], mostBytes, grouped(this.received[rank])))));
+    const row = (kind, name, note, values, mostOfAll) => {
+      const head = made("th", "name", name, " ", made("span", "note", note));
+      head.scope = "row";
+      return made("tr", "costs", head, ...this.ranks.map((rank) => barCell(kind, values[rank], mostOfAll, grouped(values[rank]))));
+    };
+    $("bars").replaceChildren(row("work", "w", "instructions", place.ticks, most), row("sent", "sent", "bytes", this.sent, mostBytes),
+      row("received", "received", "bytes", this.received, mostBytes));
     const whole = costOf(it, this.g, this.l);
     $("formula").textContent = `Superstep ${superstep}, so far: w = ${grouped(w)}, h = ${counted(h, "byte")}.`;
     $("whole").textContent = `Superstep ${superstep} as a whole: w ${grouped(it.most)} + g ${grouped(this.g)} × h ${grouped(it.h)} + l ${grouped(this.l)} = ${grouped(whole)}.`;
-    $("running").textContent = `The supersteps before it: ${grouped(this.total(superstep))}. With it: ${grouped(this.total(superstep) + whole)}.`;
+    const isWhole = superstep === this.supersteps.length - 1;
+    $("running").textContent = isWhole || superstep === 0 ? "" : `Supersteps 0 to ${superstep}: ${this.spelled(superstep + 1)}.`;
+  }
+
+  /** The total of the first supersteps as a sum. @param {number} count */
+  spelled(count) {
+    const [w, h] = this.sums[count];
+    return `w ${grouped(w)} + g ${grouped(this.g)} × h ${grouped(h)} + ${grouped(count)} × l ${grouped(this.l)} = ${grouped(this.total(count))}`;
   }
 
   drawAll() {
     const count = this.supersteps.length;
-    $("total").textContent = `${counted(count, "superstep")}, in all ${grouped(this.total(count))}.`;
+    $("total").textContent = `${count === 1 ? "The run" : `All ${grouped(count)} supersteps`}: ${this.spelled(count)}.`;
+    this.drawNumbers();
     const size = Math.ceil(count / MOST_COLUMNS);
     const columns = [];
     for (let k = 0; k < count; k += size) {
@@ -129,6 +143,21 @@ class Costs {
     $("superstep").style.width = `calc(${100 - 100 / columns.length}% + 1rem)`;
   }
 
+  // The numbers of supersteps below the slider, and what each costs if there are few.
+  drawNumbers() {
+    const count = this.supersteps.length;
+    const room = $("numbers").clientWidth;
+    const step = roundStep(count / Math.max(1, Math.floor(room / NUMBER_WIDTH)));
+    const marks = [];
+    for (let k = 0; k < count; k += step) {
+      const cost = count <= room / COST_WIDTH ? `: ${grouped(costOf(this.supersteps[k], this.g, this.l))}` : "";
+      const it = made("span", k === this.stop?.superstep ? "now" : "", made("span", "", `${k}${cost}`));
+      it.style.left = `${(100 * (k + 0.5)) / count}%`;
+      marks.push(it);
+    }
+    $("numbers").replaceChildren(...marks);
+  }
+
   /** The superstep at a place of the picture, from 0 at its left to 1 at its right. */
   superstepAt(share) {
     return Math.min(this.supersteps.length - 1, Math.floor(share * this.supersteps.length));
@@ -139,4 +168,14 @@ function barCell(kind, value, most, text) {
   const bar = made("span", `bar ${kind}`);
   bar.style.width = `${Math.round((100 * value) / most)}%`;
   return made("td", "", made("span", "value", text), made("span", "track", bar));
+}
+
+/** The smallest of 1, 2, 5, 10, 20, 50 and so on that is not below a number. @param {number} least */
+function roundStep(least) {
+  for (let ten = 1; ; ten *= 10) {
+    const found = [1, 2, 5].find((it) => it * ten >= least);
+    if (found !== undefined) {
+      return found * ten;
+    }
+  }
 }

@@ -1,6 +1,7 @@
 // The sources, with a mark of each rank at the line where it is.
 
 const NEAR = 8;
+const MOST_INDENT = 24;
 
 class Listing {
   /** @param {HTMLElement} frame @param {HTMLSelectElement} chooser @param {any[]} sources */
@@ -24,7 +25,11 @@ class Listing {
     this.chooser.value = String(file);
     this.rows = this.sources[file].text.replace(/\n$/, "").split("\n").map((text, k) => {
       const marks = made("span", "marks");
-      const row = made("div", "line", marks, made("span", "number", String(k + 1)), made("code", "", text === "" ? " " : text));
+      const code = made("code", "", text === "" ? " " : text);
+      // A long line goes on below itself, a little to the right of where it begins.
+      const indent = Math.min(MOST_INDENT, /^\s*/.exec(text.replaceAll("\t", "    "))[0].length + 4);
+      code.style.setProperty("--indent", `${indent}ch`);
+      const row = made("div", "line", marks, made("span", "number", String(k + 1)), code);
       return Object.assign(row, { marks });
     });
     this.frame.replaceChildren(...this.rows);

@@ -6,6 +6,8 @@ const MOST_LINE_STEPS = 2000;
 const MOST_SOURCES = 6;
 // With more ranks, only the lines of those that have a column are looked for where they have called a function of the library.
 const MOST_PLACES = 128;
+// The most instructions of all ranks in a superstep whose stops are counted before anyone goes there.
+const MOST_COUNTED = 300_000;
 
 class Moves {
   /** @param {Machine} machine @param {Names} names @param {Stage} stage @param {Listing} listing @param {Costs} costs @param {any} program */
@@ -39,6 +41,7 @@ class Moves {
       try {
         const stop = await next();
         stop !== undefined && (await this.show(stop));
+        this.wanted === undefined && !this.isGone && (await this.countStops());
       } catch (error) {
         this.isGone || error instanceof Elsewhere || say(error.message, true);
       }
@@ -136,7 +139,7 @@ class Moves {
     const { stop, requests, old, now, contested, exposed, offender } = seen;
     this.seen = seen;
     const [sent, received] = this.bytes(stop, requests);
-    this.stage.show(now, old, contested, exposed, requests.arrows.some((it) => it.kind === "message"));
+    this.stage.show(now, old, contested, exposed, requests.arrows, stop);
     this.stage.overview(now.places, stop, sent, received, this.shown, (rank) => this.choose(rank));
     const call = stop.call ?? (stop.kind === "over" ? offender : undefined);
     document.querySelector("main").className = this.shown.length > 8 ? "many" : "";
@@ -146,19 +149,56 @@ class Moves {
     $("output").textContent = text === "" ? "Nothing yet." : text;
     $("output").scrollTop = $("output").scrollHeight;
     this.tell(seen);
+    this.traffic();
+    this.showStops();
     this.arrowsAgain();
     this.buttons();
+    this.linkAgain();
+  }
+
+  /** Has the address lead to what is shown now. */
+  linkAgain() {
     history.replaceState(null, "", `#${this.link()}`);
   }
 
-  /** Draws the arrows where things are now. */
+  /** Writes who sends how much to whom, if that is open. */
+  traffic() {
+    const { requests } = this.seen;
+    const isCounted = !(requests.superstep === this.machine.last && this.machine.outcome.startsWith("refused"));
+    $("traffic").open && $("traffic-table").replaceChildren(...trafficTable(requests.arrows, this.machine.nodes, this.shown, isCounted));
+    $("traffic-note").textContent = requests.left > 0 ? `Without ${counted(requests.left, "more request")}.` : "";
+  }
+
+  /** Draws the arrows where things are now: all, none, or those from and to one rank. */
   arrowsAgain() {
     const { requests } = this.seen;
-    const isShown = (rank) => this.shown.includes(rank);
-    const wanted = $("arrows").checked ? requests.arrows : [];
-    this.stage.arrows.show(wanted.filter((it) => isShown(it.from) && isShown(it.to)), requests.landed);
-    const hidden = requests.arrows.filter((it) => !isShown(it.from) || !isShown(it.to)).length + requests.left;
+    const choice = $("arrows").value;
+    const isWanted = (it) => choice === "all" || it.from === Number(choice) || it.to === Number(choice);
+    const wanted = requests.arrows.filter((it) => choice !== "none" && isWanted(it) && this.shown.includes(it.from) && this.shown.includes(it.to));
+    this.stage.arrows.show(wanted, requests.landed);
+    this.stage.heads.forEach((head, rank) => head.classList.toggle("chosen", String(rank) === choice));
+    const hidden = requests.arrows.length - wanted.length + requests.left;
     $("hidden-arrows").textContent = hidden > 0 ? `${counted(hidden, "more request")} ${hidden === 1 ? "is" : "are"} not drawn.` : "";
+  }
+
+  /** Finds how many stops the superstep has, unless that takes long, for the slider from stop to stop. */
+  async countStops() {
+    const { superstep } = this.stop;
+    const isShort = sum(this.machine.supersteps[superstep].w) <= MOST_COUNTED || this.calls.known.get(superstep) !== undefined;
+    this.list = isShort ? await this.stops.list(superstep) : undefined;
+    this.showStops();
+  }
+
+  // The place of this stop among those of its superstep.
+  showStops() {
+    const list = this.list?.[0].superstep === this.stop.superstep ? this.list : undefined;
+    const isHere = (it) => (it.kind === this.stop.kind && (it.kind !== "call" || it.at === this.stop.at)) || (this.stop.kind === "line" && reaches(it.place, this.stop.place));
+    const at = (list ?? []).reduce((found, it, k) => (isHere(it) ? k : found), 0);
+    $("stop").disabled = list === undefined;
+    $("stop").max = String(Math.max(1, (list?.length ?? 0) - 1));
+    $("stop").value = String(at);
+    $("stop").setAttribute("aria-valuetext", $("what").textContent);
+    $("stop-number").textContent = list === undefined ? `in superstep ${this.stop.superstep}` : `${at + 1} of ${list.length} in superstep ${this.stop.superstep}`;
   }
 
   // The bytes that each rank has sent and received in the superstep so far, without those to itself.
@@ -231,6 +271,17 @@ class Moves {
     });
   }
 
+  /** To where all ranks wait, or from there to where the next superstep begins. */
+  half() {
+    return this.ask(async () => {
+      const { superstep, kind } = this.stop;
+      if (kind !== "barrier" && kind !== "over" && this.stops.isBarrier(superstep)) {
+        return this.stops.barrier(superstep);
+      }
+      return superstep < this.machine.last ? this.stops.begin(superstep + 1) : this.stops.over;
+    });
+  }
+
   to(stop) {
     return this.ask(async () => stop);
   }
@@ -295,13 +346,16 @@ class Moves {
     const { superstep, kind, at, place } = this.stop;
     const text = { begin: `${superstep}`, call: `${superstep}.${at}`, barrier: `${superstep}.end`, over: "over", line: `${superstep}:${place.ticks.join(",")}` }[kind];
     const own = this.program.settings;
-    const changed = ["nodes", "g", "l"].filter((it) => this.machine.settings[it] !== own[it]).map((it) => `&${it}=${this.machine.settings[it]}`);
-    return text + changed.join("");
+    const now = { nodes: this.machine.settings.nodes, g: this.costs.g, l: this.costs.l };
+    const changed = Object.keys(now).filter((it) => String(now[it]) !== String(own[it])).map((it) => `&${it}=${now[it]}`);
+    return `${text}${changed.join("")}${this.from > 0 ? `&from=${this.from}` : ""}${this.stage.view.link()}`;
   }
 
   /** The stop that a link names. @param {string} text */
   async linked(text) {
     const [stop] = text.split("&");
+    this.stage.view.follow(text);
+    this.from = Math.max(0, Math.min(Number(/&from=(\d{1,5})(?:&|$)/.exec(text)?.[1] ?? 0), this.machine.nodes - this.shown.length));
     const found = /^(\d+)(?:\.(\d+|end)|:([\d,]+))?$/.exec(stop);
     const superstep = Number(found?.[1] ?? 0);
     if (stop === "over") {

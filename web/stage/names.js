@@ -221,11 +221,14 @@ class Names {
   /** The variables of the functions that are called: name, function, type, and where each is, if that is known. */
   locals(frames) {
     const found = [];
-    frames.forEach((frame, depth) => {
+    const functions = frames.map((it) => this.function(it.pc)?.[0]);
+    frames.forEach((frame, k) => {
       const scopes = this.around(frame.pc);
+      // How often the same function has been called around this call of it.
+      const depth = functions.slice(k + 1).filter((it) => it === functions[k]).length;
       const seen = new Set();
-      scopes.forEach((scope, k) => {
-        const name = scopes.slice(k).find((it) => it.name !== "")?.name ?? "";
+      scopes.forEach((scope, at) => {
+        const name = scopes.slice(at).find((it) => it.name !== "")?.name ?? "";
         for (const variable of scope.variables) {
           if (!seen.has(variable.name)) {
             seen.add(variable.name);

@@ -2,7 +2,10 @@
 // side by side stand in a table of their own, from which those are chosen that have a column.
 
 const MOST_COLUMNS_OF_RANKS = 16;
+const MOST_WIDE_COLUMNS = 6;
 const MOST_SHOWN_OUTPUT = 20_000;
+// The requests whose bytes are marked.
+const MOST_TOUCHING = 600;
 
 class Stage {
   /** @param {Names} names */
@@ -10,9 +13,11 @@ class Stage {
     this.names = names;
     // What areas have whose elements nobody knows.
     this.unknown = { int: names.types.push({ kind: "int", size: 4, name: "int" }) - 1, double: names.types.push({ kind: "float", size: 8, name: "double" }) - 1,
-      byte: names.types.push({ kind: "unsigned", size: 1, name: "byte" }) - 1, text: names.types.push({ kind: "char", size: 1, name: "char" }) - 1 };
+      float: names.types.push({ kind: "float", size: 4, name: "float" }) - 1, byte: names.types.push({ kind: "unsigned", size: 1, name: "byte" }) - 1,
+      text: names.types.push({ kind: "char", size: 1, name: "char" }) - 1 };
     this.arrows = new Arrows($("stage"), (...place) => this.find(...place));
     this.cells = new Map();
+    this.view = new View();
   }
 
   /** The number of the type that bytes without a type are shown as. */
@@ -26,29 +31,38 @@ class Stage {
    * @param {any} before the same of the stop before, or nothing
    * @param {Map<number, Set<number>>} contested
    * @param {Map<number, Set<number>>} exposed
-   * @param {boolean} hasMessages whether some are on their way
+   * @param {any[]} arrows what is on its way, or has landed
+   * @param {Stop} stop
    */
-  show(now, before, contested, exposed, hasMessages) {
+  show(now, before, contested, exposed, arrows, stop) {
     const looks = now.looks;
+    const hasMessages = arrows.some((it) => it.kind === "message");
+    this.touched = touchedBytes(arrows, looks);
+    this.most = looks.length > MOST_WIDE_COLUMNS ? MOST_ELEMENTS : MOST_OF_FEW_RANKS;
     this.cells = new Map(looks.map((it) => [it.rank, []]));
     this.queues = new Map();
     this.landed = new Map();
     this.heads = new Map();
-    const head = made("tr", "", made("td", "corner"), ...looks.map((it) => this.head(it)));
-    const states = made("tr", "states", made("th", "name", "state"), ...looks.map((it) => made("td", stateClass(it.node.state), stateText(it.node.state))));
+    const active = stop.call?.rank ?? (stop.kind === "line" ? stop.rank : undefined);
+    const states = made("tr", "states", made("th", "name", "state"), ...looks.map((it) => made("td", stateClass(it.node.state), stateAt(it, stop, active))));
     const rows = this.rows(looks, before?.looks);
     const areas = rows.filter((it) => it.className === "area");
     const others = rows.filter((it) => it.className !== "area");
     const queue = hasMessages || looks.some((it) => it.queue.count > 0) ? [this.queueRow(looks)] : [];
-    $("ranks").className = looks.length > 6 ? "dense" : "";
-    $("ranks").replaceChildren(made("thead", "", head), made("tbody", "", states, ...areas, ...queue, ...others));
+    $("ranks").className = looks.length > MOST_WIDE_COLUMNS ? "dense" : "";
+    $("heads").replaceChildren(made("tr", "", made("td", "corner"), ...looks.map((it) => this.head(it, it.rank === active))));
+    $("states").replaceChildren(states);
+    $("boxes").replaceChildren(...areas, ...queue, ...others);
+    this.markTouched(arrows, stop.kind === "begin");
     this.markBytes(contested, "contested", "two requests bring different values here");
     this.markBytes(exposed, "exposed", "one request reads this, and another one writes it, in an open order");
   }
 
-  head(look) {
-    const it = made("th", "rank", `rank ${look.rank}`);
+  head(look, isActive) {
+    const it = made("th", isActive ? "rank active" : "rank", `rank ${look.rank}`);
     it.scope = "col";
+    it.title = "Show the arrows of this rank only, or of all again";
+    it.dataset.rank = String(look.rank);
     this.heads.set(look.rank, it);
     return it;
   }
@@ -61,9 +75,10 @@ class Stage {
         keys.has(box.key) || keys.set(box.key, box);
       }
     }
-    return orderedKeys(keys).map((key) => {
+    this.view.offer([...keys.values()].map((it) => it.name));
+    return orderedKeys(keys).filter((key) => this.view.isShown(keys.get(key).name)).map((key) => {
       const box = keys.get(key);
-      const name = made("th", box.isArea ? "name area" : "name", box.name, made("span", "note", box.note));
+      const name = made("th", box.isArea ? "name area" : "name", box.name, " ", made("span", "note", box.note));
       name.scope = "row";
       return made("tr", box.isArea ? "area" : "", name, ...looks.map((look, k) => this.cellOf(look, key, before?.[k])));
     });
@@ -87,7 +102,9 @@ class Stage {
   }
 
   value(look, box, old) {
-    const shown = new Shown(this.names.types, (address) => this.named(look, address));
+    const touched = (this.touched.get(look.rank) ?? []).filter(([begin, end]) => begin < box.address + box.size && end > box.address);
+    const inside = touched.map(([begin, end]) => [begin - box.address, end - box.address]);
+    const shown = new Shown(this.names.types, (address) => this.named(look, address), this.view.isOpen(box.name), inside, this.most);
     if (box.type !== undefined) {
       return shown.value(box.type, box.bytes, old);
     }
@@ -146,6 +163,25 @@ class Stage {
     return partOf(found, address) ?? found.cell;
   }
 
+  // Marks the cells whose bytes requests take, and those to which they bring some.
+  markTouched(arrows, hasLanded) {
+    for (const it of arrows.slice(0, MOST_TOUCHING)) {
+      this.markCells(it.from, it.begins, it.bytes, `taken ${it.kind}`, `${it.kind} to rank ${it.to}`);
+      it.kind !== "message" && this.markCells(it.to, it.lands, it.bytes, `brought ${it.kind}${hasLanded ? "" : " asked"}`, `${it.kind} from rank ${it.from}`);
+    }
+  }
+
+  markCells(rank, address, count, words, title) {
+    const found = address === undefined ? undefined : this.cells.get(rank)?.find(({ box }) => holds(box, address));
+    const [begin, end] = found === undefined ? [0, 0] : [address - found.box.address, address - found.box.address + count];
+    for (const cell of found?.cell.querySelectorAll(".cell") ?? []) {
+      if (Number(cell.dataset.at) < end && Number(cell.dataset.at) + Number(cell.dataset.size) > begin) {
+        cell.classList.add(...words.split(" "));
+        cell.title = cell.title === "" ? title : cell.title.includes(title) ? cell.title : `${cell.title}, ${title}`;
+      }
+    }
+  }
+
   // Marks the parts of boxes that have such bytes.
   markBytes(bytes, word, meaning) {
     for (const [rank, addresses] of bytes) {
@@ -196,6 +232,25 @@ function partOf({ box, cell }, address) {
 
 /** What a state is called for a person. */
 const stateText = (state) => ({ synced: "waits", running: "runs" })[state] ?? state;
+
+// The same of a rank at a stop, of which one rank has come there, the active one: what it does there, and that others have yet to begin.
+function stateAt(look, stop, active) {
+  const isRunning = look.node.state === "running" && active !== undefined;
+  if (isRunning && look.rank === active && stop.call !== undefined) {
+    return `calls ${CALLS[stop.call.number]?.[0] ?? stop.call.number}`;
+  }
+  return isRunning && stop.place.ticks[look.rank] === 0 ? "not begun" : stateText(look.node.state);
+}
+
+/** Where the bytes begin and end that requests take or bring, by ranks. */
+function touchedBytes(arrows, looks) {
+  const found = new Map(looks.map((it) => [it.rank, []]));
+  for (const it of arrows.slice(0, MOST_TOUCHING)) {
+    it.begins !== undefined && found.get(it.from)?.push([it.begins, it.begins + it.bytes]);
+    it.kind !== "message" && it.lands !== undefined && found.get(it.to)?.push([it.lands, it.lands + it.bytes]);
+  }
+  return found;
+}
 const stateClass = (state) => (state === "running" ? "runs" : state === "synced" ? "waits" : state === "ended" ? "ended" : "wrong");
 
 /** A payload, of which nobody knows what it is: a text, or numbers. */

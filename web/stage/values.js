@@ -1,7 +1,15 @@
 // Values by their types: numbers, texts, structures, arrays and matrices, as text and as elements of the page.
 
 const MOST_ELEMENTS = 24;
+const MOST_OF_FEW_RANKS = 40;
+// So many elements are shown, too, rather than a line that stands for them.
+const SHORT_FOLD = 2;
 const MOST_ROWS = 12;
+// The same if a reader asks for all elements; and how many are shown of those that requests take or bring.
+const MOST_UNFOLDED = 1024;
+const MOST_UNFOLDED_ROWS = 64;
+const MOST_TOUCHED = 24;
+const FEW_TOUCHED = 4;
 const MOST_TEXT = 200;
 const MOST_CHANGED = 24;
 
@@ -63,9 +71,15 @@ function wholeNumber(view, size, isSigned) {
 
 /** The cells of a value: each scalar in it, with the bytes that it has. */
 class Shown {
-  /** @param {any[]} types @param {(address: number) => string} named */
-  constructor(types, named) {
-    Object.assign(this, { types, named });
+  /**
+   * @param {any[]} types
+   * @param {(address: number) => string} named
+   * @param {boolean} isOpen whether long arrays are shown with all their elements
+   * @param {[number, number][]} touched where bytes of the box begin and end that requests take or bring
+   * @param {number} most how many of the first elements of a long array are shown
+   */
+  constructor(types, named, isOpen = false, touched = [], most = MOST_ELEMENTS) {
+    Object.assign(this, { types, named, isOpen, touched, most });
   }
 
   /**
@@ -88,7 +102,7 @@ class Shown {
 
   cell(text, at, bytes, before) {
     const isNew = before !== undefined && isOther(bytes, before);
-    const it = made("span", isNew ? "cell changed" : "cell", text);
+    const it = made("span", `cell${isNew ? " changed" : ""}${text.startsWith('"') ? " text" : ""}`, text);
     it.dataset.at = String(at);
     it.dataset.size = String(bytes.length);
     if (isNew) {
@@ -127,37 +141,43 @@ class Shown {
 
   matrix(of, [rows, columns], size, bytes, before, at) {
     const table = made("table", "matrix");
-    for (let i = 0; i < Math.min(rows, MOST_ROWS); i++) {
+    const most = this.isOpen ? MOST_UNFOLDED_ROWS : MOST_ROWS;
+    for (let i = 0; i < Math.min(rows, most); i++) {
       const row = made("tr", "", made("th", "", String(i)));
-      for (let j = 0; j < Math.min(columns, MOST_ROWS); j++) {
+      for (let j = 0; j < Math.min(columns, most); j++) {
         const from = (i * columns + j) * size;
         row.append(made("td", "", this.value(of, bytes.subarray(from, from + size), before?.subarray(from, from + size), at + from)));
       }
-      columns > MOST_ROWS && row.append(made("td", "note", "…"));
+      columns > most && row.append(made("td", "note", "…"));
       table.append(row);
     }
-    return rows > MOST_ROWS ? made("div", "", table, made("p", "note", `${rows} rows of ${columns}`)) : table;
+    return rows > most || columns > most ? made("div", "", table, made("p", "note fold", `${rows} rows of ${columns}`)) : table;
   }
 
-  // Elements one beside another: the first ones, those that changed, and a line for the rest.
+  // Elements one beside another: the first ones, those that changed or that requests take or bring, and a line for the rest.
   row(of, size, bytes, before, at) {
     const count = Math.floor(bytes.length / size);
     const part = (from, content) => content?.subarray(from * size, (from + 1) * size);
-    const shown = new Set(chosenElements(count, size, bytes, before));
+    const chosen = this.isOpen ? Array.from({ length: Math.min(count, MOST_UNFOLDED) }, (_, k) => k) : chosenElements(count, size, bytes, before, this.most);
+    const shown = withoutGaps(chosen.length < count ? [...chosen, ...touchedElements(count, size, at, this.touched)] : chosen);
     const isPlain = !["array", "record"].includes(this.types[of]?.kind);
     const list = made("div", isPlain ? "row" : "rows");
     let left = 0;
+    let longest = [0, 0];
     for (let k = 0; k <= count; k++) {
       if (k < count && shown.has(k)) {
         left > 0 && list.append(foldedMark(left, k, size, bytes, at));
         left = 0;
         const it = this.value(of, part(k, bytes), part(k, before), at + k * size);
         list.append(made("span", "element", made("span", "index", String(k)), it));
+        longest = [Math.max(longest[0], String(k).length), Math.max(longest[1], isPlain ? it.firstChild.textContent.length : 0)];
       } else if (k < count) {
         left += 1;
       }
     }
     left > 0 && list.append(foldedMark(left, count, size, bytes, at));
+    // Elements of the same width stand below each other.
+    list.style.setProperty("--wide", `${(0.4 * longest[0] + 0.52 * longest[1] + 0.6).toFixed(2)}rem`);
     return list;
   }
 }
@@ -166,8 +186,8 @@ class Shown {
 const isOther = (a, b) => a.length !== b.length || a.some((it, k) => it !== b[k]);
 
 // The elements of a long array that are shown: all of a short one; else the first ones up to where only equal ones follow, and what changed.
-function chosenElements(count, size, bytes, before) {
-  if (count <= MOST_ELEMENTS + 4) {
+function chosenElements(count, size, bytes, before, most) {
+  if (count <= most + 4) {
     return Array.from({ length: count }, (_, k) => k);
   }
   const isSame = (a, b) => !isOther(bytes.subarray(a * size, (a + 1) * size), bytes.subarray(b * size, (b + 1) * size));
@@ -175,8 +195,8 @@ function chosenElements(count, size, bytes, before) {
   while (last > 0 && isSame(last - 1, count - 1)) {
     last -= 1;
   }
-  const chosen = Array.from({ length: Math.min(MOST_ELEMENTS, last + 1) }, (_, k) => k);
-  for (let k = MOST_ELEMENTS, more = 0; before !== undefined && k < count && more < MOST_CHANGED; k++) {
+  const chosen = Array.from({ length: Math.min(most, last + 1) }, (_, k) => k);
+  for (let k = most, more = 0; before !== undefined && k < count && more < MOST_CHANGED; k++) {
     if (isOther(bytes.subarray(k * size, (k + 1) * size), before.subarray(k * size, (k + 1) * size))) {
       chosen.push(k);
       more += 1;
@@ -185,11 +205,37 @@ function chosenElements(count, size, bytes, before) {
   return chosen;
 }
 
+// The elements that requests take or bring: of each request the first and the last ones, or the first one if there are many.
+function touchedElements(count, size, at, touched) {
+  const chosen = [];
+  for (const [begin, end] of touched) {
+    const [first, last] = [Math.max(0, Math.floor((begin - at) / size)), Math.min(count, Math.ceil((end - at) / size)) - 1];
+    const isWide = last - first > 5;
+    for (let k = first; k <= last && chosen.length < MOST_TOUCHED; k = touched.length > FEW_TOUCHED ? last + 1 : isWide && k === first + 2 ? last - 2 : k + 1) {
+      chosen.push(k);
+    }
+  }
+  return chosen;
+}
+
+// The elements that are chosen, and those of short gaps between them.
+function withoutGaps(chosen) {
+  const found = new Set();
+  let last = -1;
+  for (const k of [...chosen].sort((a, b) => a - b)) {
+    for (let gap = k - last - 1 <= SHORT_FOLD ? last + 1 : k; gap <= k; gap++) {
+      found.add(gap);
+    }
+    last = k;
+  }
+  return found;
+}
+
 // Stands for elements that are not shown.
 function foldedMark(left, end, size, bytes, at) {
   const from = (end - left) * size;
   const isZero = bytes.subarray(from, end * size).every((it) => it === 0);
-  const it = made("span", "cell folded", `${grouped(left)} more${isZero ? ", all 0" : ""}`);
+  const it = made("span", "cell folded fold", `${grouped(left)} ${isZero ? "× 0" : "more"}`);
   it.dataset.at = String(at + from);
   it.dataset.size = String(left * size);
   return it;

@@ -15,7 +15,9 @@ const MEANINGS = {
 /** How many requests there are of each kind, and how many bytes they have. */
 function amounts(arrows) {
   const parts = Object.keys(KINDS).map((kind) => [kind, arrows.filter((it) => it.kind === kind).length]).filter(([, count]) => count > 0);
-  return parts.length === 0 ? "nothing" : `${parts.map(([kind, count]) => counted(count, KINDS[kind])).join(" and ")}, ${counted(sum(arrows.map((it) => it.bytes)), "byte")}`;
+  const [last, ...others] = parts.map(([kind, count]) => counted(count, KINDS[kind])).reverse();
+  const all = others.length === 0 ? last : `${others.reverse().join(", ")} and ${last}`;
+  return parts.length === 0 ? "nothing" : `${all}, ${counted(sum(arrows.map((it) => it.bytes)), "byte")} in all`;
 }
 
 /** @param {Moves} moves @param {Stop} stop */
@@ -23,7 +25,7 @@ function sentence(moves, stop, requests) {
   const { superstep, kind, call, place } = stop;
   const { machine } = moves;
   if (kind === "over") {
-    return `The run is over after superstep ${superstep}: ${machine.outcome}.`;
+    return machine.outcome === "ended" ? `The run has ended after superstep ${superstep}.` : `A mistake has stopped the run in superstep ${superstep}.`;
   }
   if (kind === "begin" && superstep === 0) {
     return `Superstep 0 begins: ${machine.nodes === 1 ? "the rank starts" : `all ${machine.nodes} ranks start`} the program.`;

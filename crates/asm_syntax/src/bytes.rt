@@ -1,4 +1,4 @@
-//! The bytes of a line by their kinds.
+//! The kinds of bytes in a line.
 
 ghost use Rattle.std.specs.Prelude.{◌≡◌};
 ghost use Rattle.asm_syntax.specs.Bytes.{is_blank, is_word_byte, is_plain, escape_value};
@@ -24,7 +24,7 @@ pub(crate) fn is_plain(byte: u8) -> bool
     (b' '..=b'~').contains(&byte)
 }
 
-/// What an escape stands for, by the byte behind its `\`.
+/// What an escape stands for, by the byte after its `\`.
 pub(crate) fn escape_value(byte: u8) -> Option<u8>
     ensures { result ≡ escape_value byte }
 {

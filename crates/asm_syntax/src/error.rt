@@ -1,4 +1,4 @@
-//! What a line can be refused for.
+//! The faults for which a line is refused.
 
 use std::alloc::{AllocError, AllocFailed};
 

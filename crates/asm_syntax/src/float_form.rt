@@ -1,4 +1,4 @@
-//! The statements of floating point by their mnemonics, and what each makes of its operands.
+//! The floating-point statements by their mnemonics, and what each makes of its operands.
 
 ghost use Rattle.std.specs.Prelude.{◌≡◌, option_map};
 ghost use Rattle.asm_syntax.specs.FloatForms.{float_forms, float_form_named, float_mnemonic, row_instruction, row_of};
@@ -210,8 +210,8 @@ pub(crate) fn row_of(form: FloatForm) -> RowForm
 }
 
 impl FloatOperands {
-    /// The operands of a statement where none are written: the rounding mode is that of `frm`, but to nearest where a value goes to
-    /// doubles, which hold it exactly.
+    /// The operands of a statement if none are written: the rounding mode is that of `frm`, but to nearest if a value goes to doubles,
+    /// which hold it exactly.
     pub(crate) fn left_out(form: FloatForm) -> FloatOperands
         ensures { result ≡ left_out form }
     {
@@ -342,7 +342,7 @@ pub(crate) fn instruction(row: RowForm, operands: FloatOperands) -> FloatInstr
     }
 }
 
-/// The kinds of so many operands of a statement, or none where it does not take so many.
+/// The kinds of so many operands of a statement, or none if it does not take so many.
 pub(crate) fn kinds_of(form: FloatForm, count: usize) -> Option<&'static [Kind]>
     ensures { option_map (λ kinds. kinds.now) result ≡ kinds_of form count }
 {
@@ -380,7 +380,7 @@ fn row_kinds(row: RowForm, count: usize) -> Option<&'static [Kind]>
     }
 }
 
-/// All of some kinds, where there are so many operands.
+/// All of some kinds, if there are so many operands.
 fn exactly(kinds: &'static [Kind], count: usize) -> Option<&'static [Kind]>
     ensures { option_map (λ kinds. kinds.now) result ≡ exactly kinds.now count }
 {
@@ -391,7 +391,7 @@ fn exactly(kinds: &'static [Kind], count: usize) -> Option<&'static [Kind]>
     }
 }
 
-/// The same where the last operand may be left out.
+/// The same if the last operand may be left out.
 fn but_for_last(kinds: &'static [Kind], count: usize) -> Option<&'static [Kind]>
     ensures { option_map (λ kinds. kinds.now) result ≡ but_for_last kinds.now count }
 {
@@ -401,7 +401,7 @@ fn but_for_last(kinds: &'static [Kind], count: usize) -> Option<&'static [Kind]>
     }
 }
 
-/// The same where the first operand may be left out.
+/// The same if the first operand may be left out.
 fn but_for_first(kinds: &'static [Kind], count: usize) -> Option<&'static [Kind]>
     ensures { option_map (λ kinds. kinds.now) result ≡ but_for_first kinds.now count }
 {

@@ -1,4 +1,4 @@
-//! The operands of the statements of floating point: of which kinds they are, and what is read of them.
+//! The operands of floating-point statements: their kinds, and how each is read.
 
 ghost use Rattle.std.specs.Prelude.{true, ◌≡◌, map};
 ghost use Rattle.asm_syntax.specs.Faults.{judged};

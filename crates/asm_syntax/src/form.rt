@@ -86,7 +86,7 @@ static OWN_FORMS: [(&str, Form); 17] = [
     ("bnez", Form::BranchIfNotZero),
 ];
 
-/// The statement with a mnemonic. Those of extensions are among them where the language has these.
+/// The statement with a mnemonic. Those of extensions are among them if the language has these.
 pub(crate) fn form_named(extensions: Extensions, mnemonic: &[u8]) -> Option<Form>
     ensures { result ≡ form_named extensions mnemonic.now }
 {

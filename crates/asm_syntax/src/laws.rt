@@ -14,7 +14,7 @@ pub fn a_statement_is_in_range()
         → IfSome line.statement IsInRange }
 {}
 
-/// Want of memory is no fault of a line.
+/// Lack of memory is not a fault of a line.
 #[tactic(auto, using(crate::proofs::Facts::never_memory))]
 pub fn no_line_wants_memory()
     ensures { (extensions : Extensions) (bytes : List ℕ) → line_of extensions bytes ≢ Err LineError.NoMemory }

@@ -6,7 +6,7 @@ ghost use Rattle.asm_syntax.specs.Bytes.{is_line_feed};
 ghost use Rattle.std.specs.Option.{option_map_or};
 ghost use Rattle.asm_syntax.specs.Lines.{lines_of, without_return};
 
-/// The first line of a text, and the text behind the line feed that ends it; none where it ends with the text.
+/// The first line of a text, and the text after the line feed that ends it; none if it ends with the text.
 ///
 /// A line is answered without its line feed, and without a carriage return right before that.
 pub fn split_line(text: &[u8]) -> (&[u8], Option<&[u8]>)

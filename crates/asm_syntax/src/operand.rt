@@ -23,7 +23,7 @@ pub(crate) struct Address {
     pub(crate) base: u8,
 }
 
-/// A number and what stands in parentheses behind it.
+/// A number and what is in parentheses after it.
 #[derive(Clone, Copy, Debug)]
 struct NumberAndBase<'a> {
     number: i64,
@@ -40,14 +40,14 @@ pub(crate) fn register(operand: &[Token<'_>]) -> Result<u8, LineError>
     }
 }
 
-/// The value of a number's word, or [`LIMIT`] where it is more.
+/// The value of a number's word, or [`LIMIT`] if it is more.
 fn magnitude(word: &[u8]) -> i64
     ensures { result ≡ pos (min (unwrap_or (value_of word.now) 0) LIMIT) }
 {
     number_value(word).unwrap_or(0) as i64
 }
 
-/// The value of a number's word with its sign turned, or -[`LIMIT`] where it is less.
+/// The value of a number's word with its sign turned, or -[`LIMIT`] if it is less.
 fn negated(word: &[u8]) -> i64
     ensures { result ≡ clamped LIMIT (neg_ℤ (pos (unwrap_or (value_of word.now) 0))) }
 {
@@ -180,7 +180,7 @@ pub(crate) fn target<'a>(operand: &[Token<'a>]) -> Result<Target<'a>, LineError>
     }
 }
 
-/// What stands between the `"` of a string, with its escapes.
+/// What is between the `"` of a string, with its escapes.
 pub(crate) fn text<'a>(operand: &[Token<'a>]) -> Option<&'a [u8]>
     ensures { option_map (λ s. unescaped s.now) result ≡ text_in (map token_value operand.now) }
 {

@@ -1,4 +1,4 @@
-//! What a line says.
+//! The parser of a line.
 
 ghost use Rattle.std.specs.Prelude.{◌≡◌, ◌≢◌, ◌∷◌, [], map, Some, None, Ok, Err, IfOk, IfErr, IfSome};
 ghost use Rattle.std.specs.Option.{option_map};
@@ -21,7 +21,7 @@ use std::alloc::{AllocError, Allocator};
 /// What a line says: its labels and its statement. A line is any bytes without its line feed. The language has the statements of
 /// some extensions.
 ///
-/// The error is the first fault of [`LineError`] that the line has, or `NoMemory` where memory is refused.
+/// The error is the first fault of [`LineError`] that the line has, or `NoMemory` if memory is refused.
 #[tactic(auto, unfolding(crate::specs::Parse::line_of))]
 pub fn parse_line<'a, A: Allocator + Copy>(
     alloc: A,
@@ -41,7 +41,7 @@ pub fn parse_line<'a, A: Allocator + Copy>(
     })
 }
 
-/// The labels that tokens begin with, and the tokens behind them.
+/// The labels that tokens begin with, and the tokens after them.
 fn labels<'t, 'a, A: Allocator + Copy>(
     alloc: A,
     tokens: &'t [Token<'a>],
@@ -79,7 +79,7 @@ fn statement<'a, A: Allocator + Copy>(
     }
 }
 
-/// The statement that a mnemonic and the tokens behind it spell.
+/// The statement that a mnemonic and the tokens after it spell.
 fn statement_named<'a, A: Allocator + Copy>(
     alloc: A,
     extensions: Extensions,
@@ -96,7 +96,7 @@ fn statement_named<'a, A: Allocator + Copy>(
     read(alloc, form, &operands)
 }
 
-/// The operands in the tokens behind a mnemonic: what stands between the commas.
+/// The operands in the tokens after a mnemonic: what is between the commas.
 fn operands<'t, 'a, A: Allocator + Copy>(
     alloc: A,
     tokens: &'t [Token<'a>],

@@ -1,7 +1,7 @@
 //! The operands of a statement: how many, and of which kinds.
 //!
-//! Each call answers the operands of one shape, or `BadOperand` where there are not so many or one is not of its kind, or
-//! else `OutOfRange` where a number is not in its range.
+//! Each call answers the operands of one shape. It answers `BadOperand` if the number of operands or the kind of one is wrong, and
+//! otherwise `OutOfRange` if a number is out of its range.
 
 ghost use Rattle.std.specs.Prelude.{true, ◌≡◌, ◌≤ℤ◌, ◌^◌, pos, neg_ℤ, map, IfOk};
 ghost use Rattle.asm_syntax.specs.Faults.{judged, if_ok};
@@ -192,7 +192,7 @@ pub(crate) fn two_registers_target<'a>(
     Ok((rs1, rs2, target))
 }
 
-/// A string: what stands between its `"`, with its escapes.
+/// A string: what is between its `"`, with its escapes.
 pub(crate) fn text<'a>(operands: &[&[Token<'a>]]) -> Result<&'a [u8], LineError>
     ensures { if_ok (λ raw. unescaped raw.now) result ≡ Shapes.a_text (operand_values operands.now) }
 {

@@ -1,4 +1,4 @@
-//! What a line says.
+//! The statement of a line.
 
 use list_vec::ListVec;
 use rv_atomics::AtomicInstr;

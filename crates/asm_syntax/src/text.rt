@@ -8,8 +8,8 @@ ghost use Rattle.asm_syntax.specs.Tokens.{text_from};
 use crate::bytes;
 use std::alloc::{AllocError, Allocator};
 
-/// How many bytes spell the string that a line begins with, behind its first `"`; the `"` at its end is one of them.
-/// None where the string has no end, or a byte or an escape that strings do not have.
+/// How many bytes spell the string that a line begins with, after its first `"`; the `"` at its end is one of them. None if the string has
+/// no end, or a byte or an escape that strings do not have.
 pub(crate) fn text_len(line: &[u8]) -> Option<usize>
     ensures len { result ≡ option_map (λ t. t.len) (text_from line.now) }
     ensures within { IfSome result (λ n. (0 < n) × (n ≤ length line.now)) }
@@ -26,7 +26,7 @@ pub(crate) fn text_len(line: &[u8]) -> Option<usize>
     None
 }
 
-/// What a string goes on with behind an escape, by what stands behind its `\`. None where that begins no escape.
+/// What a string goes on with after an escape, by what is after its `\`. None if that begins no escape.
 fn behind_escape(rest: &[u8]) -> Option<&[u8]>
     ensures string { option_map (λ t. t.len) (text_from (92 ∷ rest.now))
         ≡ option_and_then (λ behind. option_map (λ t. t.len + 2) (text_from behind.now)) result }

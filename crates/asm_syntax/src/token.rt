@@ -17,9 +17,9 @@ use std::alloc::Allocator;
 #[derive(Clone, Copy, Debug)]
 pub(crate) enum Token<'a> {
     Name(&'a [u8]),
-    /// The digits of a number, with `0x` before them where they are hexadecimal.
+    /// The digits of a number, with `0x` before them if they are hexadecimal.
     Number(&'a [u8]),
-    /// What stands between the `"` of a string, with its escapes.
+    /// What is between the `"` of a string, with its escapes.
     Text(&'a [u8]),
     Comma,
     Colon,
@@ -101,7 +101,7 @@ fn word_head(line: &[u8]) -> Head<'_>
     }
 }
 
-/// The token of the string that stands behind a `"`.
+/// The token of the string that stands after a `"`.
 fn text_head(rest: &[u8]) -> Head<'_>
     ensures value { head_value result
         ≡ option_map_or (λ t. token (text t.content) (t.len + 1)) (text_from rest.now) nothing }
@@ -136,7 +136,7 @@ fn word_len(line: &[u8]) -> usize
     line.len()
 }
 
-/// The token of a word that is not empty: a number where it begins with a digit, else a name.
+/// The token of a word that is not empty: a number if it begins with a digit, else a name.
 fn word_token(word: &[u8]) -> Option<Token<'_>>
     requires { 0 < length word.now }
     ensures { option_map token_value result ≡ word_token (slice_index word.now 0) (drop 1 word.now) }

@@ -64,7 +64,7 @@ most_places = 16
 
 -- that there are more nodes, if there are
 abbrev pub more_text : ℕ → List ℕ
-more_text count = if count == 0 then [] else codes "and " ++ decimal count ++ codes " more: where tells all\n"
+more_text count = if count == 0 then [] else codes "and " ++ decimal count ++ codes " more: where shows all\n"
 
 -- where the nodes of the lowest ranks are, and how many more there are
 abbrev pub first_places : MachineState → List ℕ

@@ -1,4 +1,4 @@
-//! What one line is answered.
+//! The answer to one line.
 
 ghost use Rattle.std.specs.Prelude.{◌≡◌, ◌≢◌, ◌≤◌, ◌⊎◌, ◌++◌, ℕ, List, [], codes, true, false, not, is_some};
 ghost use Rattle.std.specs.Prelude.{length, nat_lt, IfErr, IfOk, MatchResult, OnOk, string_bytes};
@@ -77,7 +77,7 @@ pub(crate) fn answer_to<A: Allocator + Copy, W: Write>(
     Ok(())
 }
 
-/// Does what a line asks for, and gives what a session writes for it. It is an error only where memory is refused.
+/// Does what a line asks for, and gives what a session writes for it. It is an error only if memory is refused.
 fn text_for<A: Allocator + Copy>(
     alloc: A,
     debugger: &mut Debugger<A>,
@@ -95,7 +95,7 @@ fn text_for<A: Allocator + Copy>(
     }
 }
 
-/// Does what a line asks for, and gives what answers it. It is an error only where memory is refused.
+/// Does what a line asks for, and gives what answers it. It is an error only if memory is refused.
 fn answer_line<A: Allocator + Copy>(
     alloc: A,
     debugger: &mut Debugger<A>,

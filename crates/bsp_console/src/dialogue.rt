@@ -1,4 +1,4 @@
-//! The sessions whose lines are read when they are wanted: the dialogue and the framed session.
+//! The sessions that read each line when they need it: the dialogue and the framed session.
 
 ghost use Rattle.std.specs.Prelude.{◌≡◌, ◌≢◌, ◌≤◌, ◌⊎◌, ◌↔◌, ℕ, List, length, take, Some, None, IfErr, OnOk, IsErrOf};
 ghost use Rattle.std.specs.Io.KnownBytes.{Appends};
@@ -20,11 +20,11 @@ use debug_lines::Line;
 use std::alloc::Allocator;
 use std::io::{Read, Write};
 
-/// Makes a machine of the program that `image` gives and of the bytes of `input`, and answers the lines of `commands` with a debugger
-/// of it: each is read when it is wanted, done, and answered to `out`, which is flushed, before the next one is read. It ends at a line
+/// Makes a machine of the program that `image` gives and of the bytes of `input`, and answers the lines of `commands` with a debugger of
+/// it: each is read when it is wanted, done, and answered to `out`, which is flushed, before the next one is read. It ends at a line
 /// `quit`, or at the end of the lines. The image and the input are read to their ends first. Of the job the workers, the slice and the
-/// report are not looked at. It has some lines more than a script: those that keep states and go back to them, and more that show where
-/// the machine is and what its nodes have. Where words are those of no line, the refusal tells what would be.
+/// report are not looked at. It has some lines more than a script: those that keep states and go back to them, and more that show where the
+/// machine is and what its nodes have. If words are those of no line, the refusal tells what would be.
 ///
 /// # Errors
 /// That of the first stage that failed:
@@ -32,14 +32,14 @@ use std::io::{Read, Write};
 /// 1. [`SessionError::BadSettings`], for the first bad setting of nodes, memory and limit. Nothing was read.
 /// 2. [`SessionError::TooLong`] or [`SessionError::ReadFault`] of the image. Nothing of the input and of the lines was read.
 /// 3. The same two of the input. Nothing of the lines was read.
-/// 4. [`SessionError::Text`], [`SessionError::BadImage`] or [`SessionError::SegmentOutside`], where there is no machine. Nothing of the
-///    lines was read.
+/// 4. [`SessionError::Text`], [`SessionError::BadImage`] or [`SessionError::SegmentOutside`], if there is no machine. Nothing of the lines
+///   was read.
 /// 5. [`SessionError::TooLong`] or [`SessionError::ReadFault`] of the lines, of which at most 2^20 bytes are taken, once all lines that
-///    were read whole are answered. [`SessionError::WriteFault`]: the replies to some first lines were written, and of the next one some
-///    first bytes, or all, where it could not be flushed.
+///   were read whole are answered. [`SessionError::WriteFault`]: the replies to some first lines were written, and of the next one some
+///   first bytes, or all, if it could not be flushed.
 ///
-/// [`SessionError::NoMemory`] is answered where a request for memory was refused, also by a command. The replies before that stand
-/// written, whole; a line at which it was refused has none.
+/// [`SessionError::NoMemory`] is answered if a request for memory was refused, also by a command. The replies before that stand written,
+/// whole; a line at which it was refused has none.
 pub fn debug_dialogue<A: Allocator + Copy, I: Read, R: Read, C: Read, W: Write>(
     alloc: A,
     image: &mut Counted<I>,

@@ -1,14 +1,14 @@
-//! Sessions with the debugger: a program is read, and the lines of a script are answered one by one.
+//! Sessions with the debugger: each reads a program, and answers the lines of a script one by one.
 //!
-//! Each session reads an image and an input to their ends, makes a machine of them, puts it into a
-//! [`Debugger`](bsp_debug::Debugger), and answers lines with it, each before the next one is looked at. What lines are answered is one
-//! definition; what differs is which lines there are, when they are read, and how the replies stand:
+//! Each session reads an image and an input to their ends, makes a machine of them, puts it into a [`Debugger`](bsp_debug::Debugger), and
+//! answers lines with it, each before the next one is looked at. One definition says how lines are answered. The sessions differ in which
+//! lines there are, when they are read, and how the replies are written:
 //!
-//! - [`debug_session`] reads its script whole before anything is made of the image, as it reads the other files.
-//! - [`debug_dialogue`] reads a line when it wants one, and flushes each reply before that, so that the lines can be typed at a
-//!   terminal, or come from a program that waits for the replies. It has some lines more than a script.
-//! - [`debug_framed`] is such a dialogue with a program: each reply stands behind a header, by which its end is found, and there are some
-//!   lines more than in a dialogue.
+//! - [`debug_session`] reads its whole script before it makes anything of the image, as it reads the other files.
+//! - [`debug_dialogue`] reads a line when it needs one, and flushes each reply before that. So a person can type the lines at a terminal,
+//!   or a program can send them and wait for the replies. A dialogue has some lines more than a script.
+//! - [`debug_framed`] is such a dialogue with a program. A header before each reply shows where the reply ends, and there are some lines
+//!   more than in a dialogue.
 //!
 //! All are generic over their readers, their writer and their allocator; the language of the lines is that of the crate `debug_lines`.
 //!
@@ -16,13 +16,13 @@
 //!
 //! - At `Ok` the replies to all lines up to the first `quit` were written, one after another, and nothing else; each is that of the
 //!   definitions for the debugger that the lines before it left.
-//! - An error is that of the first stage that failed, in the order of the session's own work. What was not reached was not touched.
-//! - Once lines are answered, an error leaves the replies to some first whole lines written, and a fault of the writer of one more some
-//!   first bytes.
-//! - A fault of a reader or of the writer is answered only where more of its calls had failed than before.
+//! - An error is that of the first stage that failed, in the order in which the session works. Later stages did not touch anything.
+//! - If an error comes after some lines were answered, the replies to these lines were written whole. A fault of the writer may also leave
+//!   the first bytes of one more reply.
+//! - A fault of a reader or of the writer is answered only if one of its calls failed in this session.
 //!
-//! What no contract says, and tests show: that a dialogue writes and flushes a reply before it reads the next line, and so does a framed
-//! session, and that memory is refused only where a request for it was.
+//! No contract says, but tests show: a dialogue and a framed session write and flush a reply before they read the next line, and they
+//! report a lack of memory only if a request for memory was refused.
 #![tactic(auto)]
 
 mod answer;

@@ -8,11 +8,11 @@ use debug_lines::{Line, parse_dialogue_line, parse_framed_line, parse_line};
 /// How a session takes lines and writes replies.
 #[derive(Clone, Copy, Debug, PartialEq, Eq)]
 pub(crate) enum Manner {
-    /// Each reply stands by itself.
+    /// Each reply comes without a header.
     Script,
     /// There are some lines more.
     Dialogue,
-    /// There are more lines than in a dialogue, and each reply stands behind a header.
+    /// There are more lines than in a dialogue, and each reply comes after a header.
     Framed,
 }
 

@@ -1,4 +1,4 @@
-//! Where the nodes of a machine are.
+//! Where the nodes of a machine have stopped.
 
 ghost use Rattle.std.specs.Prelude.{◌≡◌, ◌++◌, map, IfOk, string_bytes};
 ghost use Rattle.std.specs.List.{flat_map};
@@ -31,7 +31,7 @@ fn add_more<A: Allocator>(text: &mut String<A>, count: usize) -> Result<(), Allo
     ensures { IfOk result (λ _. string_bytes text.new ≡ string_bytes text.old ++ more_text count) }
 {
     if count > 0 {
-        writeln!(text, "and {count} more: where tells all")?;
+        writeln!(text, "and {count} more: where shows all")?;
     }
     Ok(())
 }

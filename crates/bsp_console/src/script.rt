@@ -1,4 +1,4 @@
-//! The session whose script is read whole before anything is made of it.
+//! The session that reads its whole script first.
 
 ghost use Rattle.std.specs.Prelude.{◌≡◌, ◌≢◌, ◌<◌, ◌↔◌, ◌∷◌, [], length, Some, None, IfErr, IfSome, OnOk, IsErrOf};
 ghost use Rattle.std.specs.Option.{option_map_or};
@@ -31,12 +31,12 @@ pub(crate) const SCRIPT_BYTES: usize = 1 << 20;
 /// 1. [`SessionError::BadSettings`], for the first bad setting of nodes, memory and limit. Nothing was read.
 /// 2. [`SessionError::TooLong`] or [`SessionError::ReadFault`] of the image. Nothing of the input and of the script was read.
 /// 3. The same two of the input. Nothing of the script was read.
-/// 4. The same two of the script, of which at most 2^20 bytes are taken, also where a `quit` stands early in it.
-/// 5. [`SessionError::Text`], [`SessionError::BadImage`] or [`SessionError::SegmentOutside`], where there is no machine.
+/// 4. The same two of the script, of which at most 2^20 bytes are taken, also if a `quit` stands early in it.
+/// 5. [`SessionError::Text`], [`SessionError::BadImage`] or [`SessionError::SegmentOutside`], if there is no machine.
 /// 6. [`SessionError::WriteFault`]: the replies to some first lines were written, and of the next one some first bytes, and not all.
 ///
-/// [`SessionError::NoMemory`] is answered where a request for memory was refused, also by a command. The replies before that stand
-/// written, whole; the line at which it was refused has none.
+/// [`SessionError::NoMemory`] is answered if a request for memory was refused, also by a command. The replies before that stand written,
+/// whole; the line at which it was refused has none.
 pub fn debug_session<A: Allocator + Copy, I: Read, R: Read, C: Read, W: Write>(
     alloc: A,
     image: &mut Counted<I>,
@@ -92,7 +92,7 @@ fn answer_script<A: Allocator + Copy, W: Write>(
     Ok(())
 }
 
-/// The first line of a text, and what stands behind its line feed, if it has one.
+/// The first line of a text, and what is after its line feed, if it has one.
 fn split_line(text: &[u8]) -> (&[u8], Option<&[u8]>)
     ensures lines { lines_of text.now
         ≡ result.0.now ∷ option_map_or (λ rest. lines_of rest.now) result.1 [] }

@@ -14,7 +14,7 @@ use machine_core::Machine;
 use std::alloc::Allocator;
 use std::io::Read;
 
-/// Reads the file of an image and an input, where the settings of the machine are within their ranges.
+/// Reads the file of an image and an input, if the settings of the machine are within their ranges.
 pub(crate) fn read_files<A: Allocator + Copy, I: Read, R: Read>(
     alloc: A,
     image: &mut Counted<I>,

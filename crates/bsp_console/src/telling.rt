@@ -1,4 +1,4 @@
-//! How the reply of a command is told.
+//! How the reply to a command is written.
 
 ghost use Rattle.std.specs.Prelude.{◌≡◌, ◌++◌, List, codes, IfOk, string_bytes};
 ghost use Rattle.cost_ledger.specs.declared.CostRow.{CostRow as CostRowValue};
@@ -15,7 +15,7 @@ use debug_lines::{named_float_registers, named_registers, reply_text};
 use machine_core::{Machine, Outcome};
 use std::alloc::{AllocError, Allocator};
 
-/// The reply of a command that left the machine so. It is an error only where memory is refused.
+/// The reply of a command that left the machine so. It is an error only if memory is refused.
 pub(crate) fn told<A: Allocator + Copy>(
     alloc: A,
     reply: &Reply<A>,
@@ -45,7 +45,7 @@ fn plainly<A: Allocator + Copy>(
     reply_text(alloc, reply, machine.ledger(), job.ledger, job.g, job.l)
 }
 
-/// The same to a person: registers have their names too, and behind the outcome stands where the nodes are.
+/// The same to a person: registers have their names too, and after the outcome stands where the nodes are.
 fn in_person<A: Allocator + Copy>(
     alloc: A,
     reply: &Reply<A>,

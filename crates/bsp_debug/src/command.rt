@@ -1,4 +1,4 @@
-//! What a debugger is asked for.
+//! The commands of a debugger.
 
 /// What a debugger does with its machine, or reads of it.
 #[derive(Clone, Copy)]
@@ -13,7 +13,7 @@ pub enum Command {
     Return { rank: u32, addr: u32, sp: u32 },
     /// Each running node in rank order until it stops. Points are not looked at.
     Phase,
-    /// The turn, where no node runs.
+    /// The turn, if no node runs.
     Turn,
     /// Each running node in rank order until it stops, then the turn, and again, until a point or the outcome is met. A point
     /// that stands before the command's first event does not count.

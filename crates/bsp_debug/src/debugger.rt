@@ -79,8 +79,8 @@ impl<A: Allocator + Copy> Debugger<A> {
     /// Sets a point. One that is set already stays so.
     ///
     /// # Errors
-    /// The first that applies of [`DebugError::BadRank`], where the point names a node that there is not,
-    /// [`DebugError::TooMany`], where it is not set and 1,024 points are, and [`DebugError::NoMemory`]. Nothing has changed then.
+    /// The first that applies of [`DebugError::BadRank`], if the point names a node that there is not, [`DebugError::TooMany`], if it is
+    /// not set and 1,024 points are, and [`DebugError::NoMemory`]. Nothing has changed then.
     pub fn add(&mut self, point: Point) -> Result<(), DebugError>
         ensures set { OnOk result (HasAlso point self.old.points self.new.points) }
         ensures count { OnOk result (length self.new.points
@@ -101,7 +101,7 @@ impl<A: Allocator + Copy> Debugger<A> {
     /// The points that are set, in their order: those of ranks by rank and address, and then those of supersteps.
     ///
     /// # Errors
-    /// Where memory is refused.
+    /// If memory is refused.
     pub fn points(&self) -> Result<Vec<Point, A>, AllocError>
         ensures value { IfOk result (λ points. points.items ≡ self.now.points) }
         ensures order { AreInOrder self.now.points }
@@ -125,7 +125,7 @@ impl<A: Allocator + Copy> Debugger<A> {
     /// Takes a point away. No memory is taken.
     ///
     /// # Errors
-    /// [`DebugError::NoSuchBreak`] where it is not set. Nothing has changed then.
+    /// [`DebugError::NoSuchBreak`] if it is not set. Nothing has changed then.
     pub fn remove(&mut self, point: Point) -> Result<(), DebugError>
         ensures set { OnOk result (HasNoMore point self.old.points self.new.points) }
         ensures count { OnOk result (length self.new.points + 1 ≡ length self.old.points) }
@@ -172,7 +172,7 @@ impl<A: Allocator + Copy> Debugger<A> {
     /// what the nodes have in registers, messages and requests, the output and the costs.
     ///
     /// # Errors
-    /// Where memory is refused. Nothing has changed then.
+    /// If memory is refused. Nothing has changed then.
     pub fn keep(&mut self) -> Result<u64, AllocError>
         ensures number { IfOk result (λ number. number ≡ length self.old.kept) }
         ensures ok { OnOk result (self.new ≡ keeping self.old) }
@@ -190,8 +190,7 @@ impl<A: Allocator + Copy> Debugger<A> {
     /// stay set.
     ///
     /// # Errors
-    /// [`DebugError::NoSuchKept`] where no state is kept under the number, and then [`DebugError::NoMemory`]. Nothing has changed
-    /// then.
+    /// [`DebugError::NoSuchKept`] if no state is kept under the number, and then [`DebugError::NoMemory`]. Nothing has changed then.
     pub fn back(&mut self, number: u64) -> Result<(), DebugError>
         ensures ok { OnOk result (self.new ≡ back_at number self.old) }
         ensures faultless { OnOk result (kept_fault self.old.kept number ≡ None) }
@@ -211,7 +210,7 @@ impl<A: Allocator + Copy> Debugger<A> {
     /// Forgets the state that is kept under a number. No other state gets the number. No memory is taken.
     ///
     /// # Errors
-    /// [`DebugError::NoSuchKept`] where no state is kept under the number. Nothing has changed then.
+    /// [`DebugError::NoSuchKept`] if no state is kept under the number. Nothing has changed then.
     pub fn forget(&mut self, number: u64) -> Result<(), DebugError>
         ensures ok { OnOk result (self.new ≡ without number self.old) }
         ensures fault { result_err result ≡ kept_fault self.old.kept number }
@@ -291,22 +290,22 @@ impl<A: Allocator> Debugger<A> {
         self.trace.machine()
     }
 
-    /// The command that steps over the instruction at which the node of a rank stands: one step, or where that is a call of a function,
-    /// which leaves its return address in ra, what goes on to where it returns.
+    /// The command that steps over the instruction at which the node of a rank stands: one step, or if that is a call of a function, which
+    /// leaves its return address in ra, what goes on to where it returns.
     pub fn over(&self, rank: u32) -> Command
         ensures { result ≡ over self.now.machine rank }
     {
         over(self.machine(), rank)
     }
 
-    /// The rank that makes the next step of all, as [`Command::Go`] takes them: the lowest whose node runs; rank 0 where none does.
+    /// The rank that makes the next step of all, as [`Command::Go`] takes them: the lowest whose node runs; rank 0 if none does.
     pub fn next_rank(&self) -> u32
         ensures { result ≡ next_rank self.now.machine }
     {
         next_rank(self.machine())
     }
 
-    /// The states that were kept, each at the place of its number, and none where it was forgotten.
+    /// The states that were kept, each at the place of its number, and none if it was forgotten.
     pub fn kept(&self) -> &[Option<Machine<A>>]
         ensures value { result.now ≡ self.now.kept }
         ensures reached { HasReachedStates self.now }

@@ -1,9 +1,9 @@
-//! What a debugger refuses.
+//! Why a debugger refuses a command.
 
 use std::alloc::AllocError;
 use std::fmt;
 
-/// Why a debugger refused what it was asked for. Where several apply the first in this order is answered.
+/// Why a debugger refused what it was asked for. If several apply the first in this order is answered.
 #[derive(Clone, Copy, Debug)]
 pub enum DebugError {
     /// There is no node of this rank.

@@ -1,4 +1,4 @@
-//! The commands that make events, of a machine without an outcome.
+//! The commands that make events.
 
 ghost use Rattle.std.specs.Prelude.{◌≡◌, ◌+◌, [], length, true, false, None, Ok, IfOk, OnOk, OnErr, if◌then◌else◌};
 ghost use Rattle.machine_core.specs.declared.event.Event.TheVariants.{Turn as the_turn};
@@ -36,7 +36,7 @@ impl<A: Allocator + Copy> Trace<A> {
         Ok(moved)
     }
 
-    /// The turn, where no node runs, and its outcome, if it has one.
+    /// The turn, if no node runs, and its outcome, if it has one.
     pub fn turn_with_reply(&mut self) -> Result<Reply<A>, AllocError>
         requires fresh { self.old.made ≡ [] }
         requires open { self.old.machine.outcome ≡ None }

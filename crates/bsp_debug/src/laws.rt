@@ -32,8 +32,8 @@ pub fn go_has_one_way()
         → Goes points m one stop → Goes points m other end → stop ≡ end }
 {}
 
-/// Nothing that a debugger does changes how a run ends: after the events that a command reports, a sound machine has the end that it
-/// had before; and where it has its outcome, it is at that end.
+/// Nothing that a debugger does changes how a run ends: after the events that a command reports, a sound machine has the end that it had
+/// before; and if it has its outcome, it is at that end.
 pub fn a_debugger_changes_no_end()
     ensures same { (m : MachineState) (entries : List Made)
         → IsSoundMachine m → end_of (after m (events_of entries)) ≡ end_of m }

@@ -1,29 +1,28 @@
 //! A debugger: the machine, stepped by commands.
 //!
-//! A [`Debugger`] has a machine, states that it keeps of it, and a set of [`Point`]s at which [`Command::Go`] stops. Its model is these,
-//! the machine as it began, and the events that the last command made. A command makes events of the machine, which are steps of
-//! single nodes and turns, and no others; or it only reads. And [`Debugger::back`] brings the machine to a state in which it was. So the
-//! debugger is one more scheduler of the machine, and since the order of events does not matter, nothing that it does changes how
-//! a run ends.
+//! A [`Debugger`] has a machine, states of it that it keeps, and a set of [`Point`]s at which [`Command::Go`] stops. Its model has these,
+//! the machine at its beginning, and the events that the last command made. A command makes events of the machine (steps of single nodes,
+//! and turns) or only reads. [`Debugger::back`] returns the machine to an earlier state. So the debugger is one more scheduler of the
+//! machine. Since the order of events does not matter, nothing that it does changes how a run ends.
 //!
 //! Callers may rely on this:
 //!
 //! - After a command the machine is what the events that [`Debugger::events_of_last`] reports lead to. They are reported whole and in
 //!   order, those of one rank in a row as one entry.
-//! - `Step`, `Run`, `Return`, `Phase` and `Turn` make just the events of which they speak. Those of `Go` are the first events of the
-//!   machine's walk up to the first that leads to a stop, one event at least: its outcome, or else a superstep with a point, or else a
-//!   next step with a point. They are determined ([`laws::go_has_one_way`]).
-//! - What [`Debugger::keep`] kept under a number, [`Debugger::back`] brings back whole: all of the machine, and nothing else, so that
-//!   points stay. A number is that of one state; [`Debugger::forget`] gives it to no other.
-//! - At all times the machine, and each state that is kept, is one to which events lead from the machine with which the debugger began
-//!   ([`Debugger::machine`]), and so has its end ([`laws::going_back_changes_no_end`]).
+//! - `Step`, `Run`, `Return`, `Phase` and `Turn` make exactly the events that they name. `Go` makes at least one event of the machine's
+//!   walk, and ends with the first that leads to a stop: the outcome, or else a superstep with a point, or else a next step with a point.
+//!   Its events are determined ([`laws::go_has_one_way`]).
+//! - [`Debugger::back`] restores the whole machine that [`Debugger::keep`] kept under a number, and nothing else, so points stay. A number
+//!   belongs to one state: after [`Debugger::forget`], no other state gets it.
+//! - At all times, events lead from the machine with which the debugger began to its machine ([`Debugger::machine`]) and to each kept
+//!   state. So each of them has the same end ([`laws::going_back_changes_no_end`]).
 //! - A reply is what the definitions give for the machine before and after the command.
-//! - Each refusal but [`DebugError::NoMemory`] is answered exactly where it is due, and then no event was made.
-//! - Where memory is refused, some first events of the command stand, of `Return`, `Turn` and `Go` not all of them. The command can be
-//!   given again, and goes on ([`laws::a_refused_command_goes_on`]).
+//! - Each refusal except [`DebugError::NoMemory`] is answered exactly if its condition holds, and then no event was made.
+//! - If memory is refused, the first events of the command were made; `Return`, `Turn` and `Go` did not make all of theirs. The same
+//!   command can be given again, and continues ([`laws::a_refused_command_goes_on`]).
 //!
-//! Where no point is set, `Go` runs at the speed of the machine's own run. Where some are, each step looks its address up among
-//! them, which takes time in the logarithm of their number.
+//! If no point is set, `Go` runs at the speed of the machine's own run. If points are set, each step looks up its address among them, in
+//! logarithmic time.
 //!
 //! No contract counts refusals of memory; the tests refuse each request in turn.
 #![tactic(auto)]

@@ -1,4 +1,4 @@
-//! What a command made of a machine's events.
+//! The events that a command has made.
 
 /// Some events of a machine, one after another.
 #[derive(Clone, Copy)]

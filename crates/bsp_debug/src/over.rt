@@ -1,4 +1,4 @@
-//! What steps over an instruction, and whose step is the next of all.
+//! How to step over an instruction, and which rank makes the next step.
 
 ghost use Rattle.std.specs.Prelude.{◌≡◌, find, option_copied};
 ghost use Rattle.rv_tables.specs.Codes.{code_at};
@@ -50,7 +50,7 @@ fn return_address<A: Allocator>(node: &Node<A>) -> Option<u32>
     Some(node.pc().wrapping_add(length))
 }
 
-/// How long a code is, where it is a call.
+/// How long a code is, if it is a call.
 fn call_length(code: Code) -> Option<u32>
     ensures { result ≡ call_length code }
 {
@@ -78,7 +78,7 @@ fn is_call(instr: Instr) -> bool
     }
 }
 
-/// The code at an address, or none where the memory ends before it does.
+/// The code at an address, or none if the memory ends before it does.
 fn code_at<A: Allocator>(memory: &Memory<A>, addr: u32) -> Option<Code>
     ensures { result ≡ code_at memory.now.bytes addr }
 {

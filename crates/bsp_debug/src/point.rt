@@ -1,4 +1,4 @@
-//! Where a debugger stops.
+//! The points at which a debugger stops.
 
 /// A point at which [`Command::Go`](crate::Command::Go) stops.
 #[derive(Clone, Copy, Debug, PartialEq, Eq, PartialOrd, Ord)]

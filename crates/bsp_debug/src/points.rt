@@ -62,7 +62,7 @@ impl<A: Allocator + Copy> Points<A> {
     /// The points, in their order.
     ///
     /// # Errors
-    /// Where memory is refused.
+    /// If memory is refused.
     pub fn to_vec(&self, alloc: A) -> Result<Vec<Point, A>, AllocError>
         ensures value { IfOk result (λ points. points.items ≡ self.now) }
         ensures order { AreInOrder self.now }
@@ -77,7 +77,7 @@ impl<A: Allocator + Copy> Points<A> {
     /// Sets a point, if it is not set yet.
     ///
     /// # Errors
-    /// Where memory is refused. Nothing has changed then.
+    /// If memory is refused. Nothing has changed then.
     pub fn add(&mut self, point: Point) -> Result<(), AllocError>
         ensures set { OnOk result (HasAlso point self.old self.new) }
         ensures count { OnOk result (length self.new

@@ -1,4 +1,4 @@
-//! What is read of a machine and its nodes.
+//! What a debugger reads from a machine and its nodes.
 
 ghost use Rattle.std.specs.Prelude.{◌≡◌, length, IfOk, IsTrue};
 ghost use Rattle.node_memory.specs.Bytes.{fits, bytes_at};

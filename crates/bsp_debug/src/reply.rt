@@ -13,7 +13,7 @@ use std::alloc::Allocator;
 pub enum Reply<A: Allocator> {
     /// How many steps were made.
     Moved(u64),
-    /// Whether the turn was made. It was not where some node runs.
+    /// Whether the turn was made. It was not if some node runs.
     Turned(bool),
     /// A point was met.
     Stopped(Point),

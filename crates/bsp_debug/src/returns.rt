@@ -1,4 +1,4 @@
-//! Runs of one node up to where a function returns.
+//! Runs of one node until a function returns.
 
 ghost use Rattle.std.specs.Prelude.{◌≡◌, ℕ, OnOk, OnErr};
 ghost use Rattle.bsp_debug.specs.Trace.{after_steps};
@@ -12,7 +12,7 @@ use std::alloc::{AllocError, Allocator};
 /// The register sp.
 const SP: u8 = 2;
 
-/// Runs the node of a rank until it stops or, after a step at least, stands behind a call or at a point.
+/// Runs the node of a rank until it stops or, after a step at least, stands after a call or at a point.
 pub(crate) fn run_node_to_return<A: Allocator + Copy>(
     machine: &mut Machine<A>,
     rank: u32,
@@ -37,7 +37,7 @@ pub(crate) fn run_node_to_return<A: Allocator + Copy>(
     Ok(())
 }
 
-/// Whether the node of a rank stands behind a call or at a point.
+/// Whether the node of a rank stands after a call or at a point.
 fn has_arrived<A: Allocator + Copy>(
     machine: &Machine<A>,
     rank: u32,
@@ -53,7 +53,7 @@ fn has_arrived<A: Allocator + Copy>(
     }
 }
 
-/// Whether a node stands behind a call, with no more on its stack than at the call.
+/// Whether a node stands after a call, with no more on its stack than at the call.
 fn stands_behind<A: Allocator>(node: &Node<A>, addr: u32, sp: u32) -> bool
     ensures { result ≡ stands_behind addr sp node.now.node }
 {

@@ -1,4 +1,4 @@
-//! A machine whose events are taken down.
+//! A machine that records its events.
 
 ghost use Rattle.std.specs.Prelude.{◌≡◌, ◌++◌, ◌∷◌, ◌≤◌, ◌<◌, ℕ, [], true, None, slice_get, replicate, IfOk, OnOk, OnErr, vec_len, vec_capacity, if◌then◌else◌};
 ghost use Rattle.std.specs.Option.{option_map_or};
@@ -77,7 +77,7 @@ impl<A: Allocator + Copy> Trace<A> {
     /// Makes at most `most` steps of the node of a rank, while it runs, and answers how many it made.
     ///
     /// # Errors
-    /// Where memory is refused. The steps before that stand, and are taken down.
+    /// If memory is refused. The steps before that stand, and are taken down.
     pub fn steps(&mut self, rank: u32, most: u64) -> Result<u64, AllocError>
         requires { EndsBelow rank self.old.made }
         ensures trace { IsTrace self.new }
@@ -100,7 +100,7 @@ impl<A: Allocator + Copy> Trace<A> {
     /// steps it made.
     ///
     /// # Errors
-    /// Where memory is refused. The steps before that stand, and are taken down.
+    /// If memory is refused. The steps before that stand, and are taken down.
     pub fn run_to_point(
         &mut self,
         rank: u32,
@@ -127,11 +127,10 @@ impl<A: Allocator + Copy> Trace<A> {
         Ok(count)
     }
 
-    /// Runs the node of a rank until it stops or, after a step at least, stands behind a call or at a point. Answers how many steps it
-    /// made.
+    /// Runs the node of a rank until it stops or, after a step at least, stands after a call or at a point. Answers how many steps it made.
     ///
     /// # Errors
-    /// Where memory is refused. The steps before that stand, and are taken down.
+    /// If memory is refused. The steps before that stand, and are taken down.
     pub fn run_to_return(
         &mut self,
         rank: u32,
@@ -161,7 +160,7 @@ impl<A: Allocator + Copy> Trace<A> {
     /// Makes the turn, if no node runs and there is no outcome, and answers whether it did.
     ///
     /// # Errors
-    /// Where memory is refused for a turn that is to be made. Nothing has changed then.
+    /// If memory is refused for a turn that is to be made. Nothing has changed then.
     pub fn turn(&mut self) -> Result<bool, AllocError>
         ensures was_trace { IsTrace self.old }
         ensures trace { IsTrace self.new }
@@ -204,7 +203,7 @@ impl<A: Allocator> Trace<A> {
     }
 }
 
-/// The steps that the node of a rank has made so far; none where there is no such node.
+/// The steps that the node of a rank has made so far; none if there is no such node.
 fn ticks_of<A: Allocator>(machine: &Machine<A>, rank: u32) -> u64
     ensures { result ≡ option_map_or (λ (n : NodeState). n.ticks) (slice_get machine.now.nodes rank) 0 }
 {
@@ -214,7 +213,7 @@ fn ticks_of<A: Allocator>(machine: &Machine<A>, rank: u32) -> u64
     }
 }
 
-/// Takes down some steps of a rank, if there are any, where there is room for an entry.
+/// Takes down some steps of a rank, if there are any, if there is room for an entry.
 fn note_steps<A: Allocator>(made: &mut Vec<Made, A>, rank: u32, count: u64)
     requires { vec_len made.old < vec_capacity made.old }
     ensures { made.new.items ≡ with_steps made.old.items rank count }

@@ -1,4 +1,4 @@
-//! The exchange, whole: its plan, and then the landing of each part.
+//! The whole exchange: its plan, and then the landing of each part.
 
 ghost use Rattle.std.specs.Prelude.{◌≡◌, ◌^◌, ◌<◌, ◌≤◌, Some, OnOk, OnErr, IfOk, length, map, slice_get, slice_set};
 ghost use Rattle.std.specs.List.{AllZip};

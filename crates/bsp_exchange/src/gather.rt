@@ -1,4 +1,4 @@
-//! Gathers what each node receives, and how much that is, before anything lands.
+//! Gathers what each node receives, and counts it, before anything lands.
 
 ghost use Rattle.std.specs.Prelude.{◌≡◌, ◌+◌, ◌<◌, ◌≤◌, ◌^◌, false, None, All, IsTrue, is_none, length, map, replicate, OnOk, IfOk, IfSome};
 ghost use Rattle.std.specs.List.{range_with_len};

@@ -1,4 +1,4 @@
-//! Bytes that gets fetched, and that wait to land in one memory.
+//! Bytes of gets that wait to land in one memory.
 
 ghost use Rattle.std.specs.Prelude.{◌≡◌, ◌<◌, ◌^◌, ◌∷◌, ◌++◌, [], length, IsTrue, OnOk, OnErr};
 ghost use Rattle.node_memory.specs.Bytes.{fits, bytes_at};

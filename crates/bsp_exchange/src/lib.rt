@@ -1,20 +1,19 @@
-//! The exchange at the end of a superstep: where all nodes wait, what they asked of each other comes about (BSPlib's `bsp_sync`;
-//! Hill and others, 1998).
+//! The exchange at the end of a superstep: once all nodes wait, their puts, gets and messages are carried out (BSPlib's `bsp_sync`; Hill
+//! and others, 1998).
 //!
 //! [`exchange`] takes the nodes of a machine, each at the place of its rank, all of them waiting; [`are_at_sync`] is the test of that. The
 //! model is their list of `NodeState`s, and `exchanged` is the list after the exchange: a function of the list before it alone, so that the
 //! order in which the nodes came there does not matter.
 //!
-//! [`plan`] is all of an exchange that takes memory or can be refused. It hands out a [`Part`] for each node, which lands once, by
-//! whichever thread and in whatever order of the nodes; the exchange is made when each has landed. [`draft`] is what of a plan reads
-//! other nodes than the one at hand. The rest of it, to prepare each node for its part, is [`prepare_all`], or [`Part::prepare`] by
-//! whichever thread.
+//! [`plan`] does everything in an exchange that takes memory or can be refused. It hands out a [`Part`] for each node. Any thread can land
+//! a part, once, and the nodes can come in any order; the exchange is made when all parts have landed. [`draft`] is the step of a plan that
+//! reads other nodes than its own. The other step prepares each node for its part: [`prepare_all`], or [`Part::prepare`] by any thread.
 //!
 //! What callers may rely on:
 //!
-//! - An exchange is refused for the first of its faults (own order): a next tag size or a sequence of pushes and pops that is not
-//!   rank 0's, by the lowest such rank; then a put or a get that does not keep to its area, by the lowest rank and number. A
-//!   transfer of 0 bytes is judged too.
+//! - An exchange is refused for the first of its faults (own order): a next tag size or a sequence of pushes and pops that is not rank 0's,
+//!   by the lowest such rank; then a put or a get that does not keep to its area, by the lowest rank and number. Transfers of 0 bytes are
+//!   checked too.
 //! - All gets read the memories as they were. Then gets land, and then puts, each by the caller's rank and in issue order; of two
 //!   that write the same byte the later one counts (own order).
 //! - A node's queue has just the messages that were sent to it, by the sender's rank and in issue order (own order), each with
@@ -23,14 +22,13 @@
 //!   ticks and the place in the input stay.
 //! - `h` is the most bytes that one node sent to others or received from others, with tags; `h_all` counts what it moved to itself
 //!   too, and `messages` is the most messages that one received from others (own rules).
-//! - Whatever is answered but Ok, every node is as it was, also where memory is refused: all memory is taken before the first byte
-//!   lands, that for copies of the shared pages into which bytes come too. Pages that were copied by then stay private, which no
-//!   byte shows. An exchange that was refused memory can be made again.
+//! - If the answer is not Ok, every node is as it was, even if memory was refused: the exchange takes all its memory before the first byte
+//!   lands, including that for copies of shared pages that receive bytes. Pages that were already copied stay private; no byte shows this.
+//!   An exchange that was refused memory can be tried again.
 //! - [`laws`]: the greatest key counts, and no order of landing but that of the keys matters; `h` is at most `h_all`.
 //!
-//! Time grows as the requests and the bytes that they move. A byte that a get moves is copied once beside the copy that lands, and a
-//! byte of a put is not, but for the few that a put holds by itself; messages go over as they are. A page into which bytes come is
-//! copied once, where it is shared until then.
+//! Time grows as the requests and the bytes that they move. A byte of a get is copied into a buffer first, and then lands. A byte of a put
+//! lands directly, except the few that a put holds itself. Messages move without a copy. A shared page that receives bytes is copied once.
 #![tactic(auto)]
 
 mod arrivals;

@@ -1,4 +1,4 @@
-//! What is done with bytes that wait to land in one memory, however they are kept.
+//! The trait of lists of bytes that wait to land in one memory.
 
 ghost use Rattle.std.specs.Prelude.{◌≡◌, ℕ, ◌+◌, ◌<◌, ◌≤◌, ◌^◌, Bool, List, length, take, slice_get, OnOk, Some, IfSome};
 ghost use Rattle.node_core.specs.declared.state.State.TheVariants.{Synced};

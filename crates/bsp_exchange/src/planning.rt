@@ -1,5 +1,5 @@
-//! The plan of an exchange: all of it that takes memory or can be refused, and nothing that changes a node. What of it reads other
-//! nodes than the one at hand is a draft.
+//! The plan of an exchange: everything that takes memory or can be refused, and nothing that changes a node. What of it reads other nodes
+//! than the one at hand is a draft.
 
 ghost use Rattle.std.specs.Prelude.{◌≡◌, ◌+◌, ◌^◌, ◌<◌, ◌≤◌, ◌↔◌, All, Some, IfOk, OnOk, OnErr, length, map};
 ghost use Rattle.std.specs.List.{AllZip, enumerate_from};

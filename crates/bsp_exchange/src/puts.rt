@@ -1,4 +1,4 @@
-//! Bytes that are put and wait to land in one memory.
+//! Bytes of puts that wait to land in one memory.
 
 ghost use Rattle.std.specs.Prelude.{◌≡◌, ◌<◌, ◌^◌, ◌∷◌, ◌++◌, [], OnOk, IsTrue};
 ghost use Rattle.bsp_exchange.specs.Parts.{bytes_in};

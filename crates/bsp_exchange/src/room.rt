@@ -1,4 +1,4 @@
-//! Room for what is gathered.
+//! Makes room for what is gathered.
 
 ghost use Rattle.std.specs.Prelude.{◌≡◌, ◌<◌, OnOk, vec_len, vec_capacity};
 

@@ -1,4 +1,4 @@
-//! The range that has all of some ranges.
+//! The smallest range that contains some ranges.
 
 ghost use Rattle.std.specs.Prelude.{◌≡◌, ℕ, ◌+◌, ◌-◌, ◌/◌, ◌<◌, ◌≤◌, ◌^◌, ◌↔◌, IsTrue};
 ghost use Rattle.node_memory.specs.Pages.{Owns};

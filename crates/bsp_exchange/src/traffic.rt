@@ -1,4 +1,4 @@
-//! How much an exchange moves.
+//! The traffic of an exchange: how many bytes and messages it moves.
 
 ghost use Rattle.std.specs.Prelude.{◌≡◌, ◌^◌, ◌<◌, ◌≤◌, length, replicate, All, IfOk};
 ghost use Rattle.bsp_exchange.specs.Loads.{no_load, with_transfer, IsWithin, greatest};

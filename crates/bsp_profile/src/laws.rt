@@ -27,8 +27,8 @@ pub fn what_a_rank_moves_is_in_three_parts()
         → (row_of m at).received + (row_of m at).kept ≡ bytes_received (transfers m.nodes) at.0.hart.rank }
 {}
 
-/// The greatest, over all ranks, of the larger of what a rank sends to others and what it receives from others is the h of the
-/// superstep; where what it moves to itself counts as both, it is `h_all`.
+/// The greatest, over all ranks, of the larger of what a rank sends to others and what it receives from others is the h of the superstep;
+/// if what it moves to itself counts as both, it is `h_all`.
 pub fn the_greatest_traffic_is_h()
     ensures h { (m : MachineState) → IsSoundMachine m
         → fold max 0 (map (λ (r : Row). max r.sent r.received) (rows m)) ≡ (cost_row m).h }

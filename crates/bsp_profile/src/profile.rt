@@ -1,4 +1,4 @@
-//! The profile of a run, as far as it has come.
+//! The profile of a run so far.
 
 ghost use Rattle.std.specs.Prelude.{◌≡◌, ◌++◌, true, IfOk, OnOk, OnErr};
 ghost use Rattle.machine_core.specs.declared.event.Event.TheVariants.{Turn as the_turn};
@@ -33,7 +33,7 @@ impl<A: Allocator + Copy> Profile<A> {
     /// A profile that has the names of its columns alone.
     ///
     /// # Errors
-    /// Where memory is refused.
+    /// If memory is refused.
     pub fn new(alloc: A) -> Result<Profile<A>, AllocError>
         ensures { IfOk result (λ profile. profile ≡ header) }
     {
@@ -45,7 +45,7 @@ impl<A: Allocator + Copy> Profile<A> {
     /// what went from rank to rank.
     ///
     /// # Errors
-    /// Where memory is refused. Neither the machine nor the profile has changed then.
+    /// If memory is refused. Neither the machine nor the profile has changed then.
     pub fn turn(&mut self, machine: &mut Machine<A>) -> Result<(), AllocError>
         requires { is_enabled machine.old the_turn ≡ true }
         ensures profile { OnOk result (self.new ≡ self.old ++ superstep_lines_of machine.old) }

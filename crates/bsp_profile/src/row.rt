@@ -1,9 +1,9 @@
-//! What a line of a profile says, and its text.
+//! A line of a profile: its values and its text.
 
 use node_core::State;
 use std::fmt;
 
-/// What a rank did in a superstep. Bytes and messages are those of the exchange at its end, and 0 where none is made.
+/// What a rank did in a superstep. Bytes and messages are those of the exchange at its end, and 0 if none is made.
 #[derive(Clone, Copy, Debug, PartialEq, Eq)]
 pub struct Row {
     /// The number of the superstep, from 0.

@@ -1,4 +1,4 @@
-//! Runs whose profile is taken.
+//! Runs with a profile.
 
 ghost use Rattle.std.specs.Prelude.{◌≡◌, ◌++◌, ℕ, None, IsSome, OnErr, OnOk};
 ghost use Rattle.machine_core.specs.Turn.{IsRunToEnd};
@@ -17,8 +17,8 @@ use worker_pool::{PoolError, check_numbers, run_phase_sparing};
 /// Runs a machine to its outcome as [`worker_pool::run_sparing`] does, and takes its profile superstep by superstep.
 ///
 /// # Errors
-/// As [`worker_pool::run_sparing`]; [`PoolError::NoMemory`] is also answered where the profile was refused memory. The profile has then
-/// the lines of the supersteps that are over, and the call made again with it appends those that are left.
+/// As [`worker_pool::run_sparing`]; [`PoolError::NoMemory`] is also answered if the profile was refused memory. The profile has then the
+/// lines of the supersteps that are over, and the call made again with it appends those that are left.
 pub fn run<R: Threads + Wait + Sync, A: Allocator + Copy + Send + Sync>(
     rt: &R,
     machine: &mut Machine<A>,
@@ -44,8 +44,8 @@ pub fn run<R: Threads + Wait + Sync, A: Allocator + Copy + Send + Sync>(
 /// Runs a machine to its outcome in one thread, as [`Machine::run_plain`] does, and takes its profile superstep by superstep.
 ///
 /// # Errors
-/// Where memory is refused. The profile has then the lines of the supersteps that are over, and the call made again with it appends those
-/// that are left.
+/// If memory is refused. The profile has then the lines of the supersteps that are over, and the call made again with it appends those that
+/// are left.
 pub fn run_plain<A: Allocator + Copy>(
     machine: &mut Machine<A>,
     profile: &mut Profile<A>,

@@ -1,4 +1,4 @@
-//! What an exchange moves from rank to rank, added up request by request before it is made.
+//! Adds up what an exchange will move from rank to rank.
 
 ghost use Rattle.std.specs.Prelude.{◌≡◌, ℕ, ◌+◌, ◌*◌, ◌^◌, ◌<◌, ◌≤◌, All, IfOk, length, map, slice_index, slice_set, sum_by, replicate};
 ghost use Rattle.std.specs.List.{range_with_len};
@@ -26,7 +26,7 @@ pub(crate) struct Tally<A: Allocator> {
 }
 
 impl<A: Allocator + Copy> Tally<A> {
-    /// What the exchange at the end of this superstep moves, none of whose nodes runs any more: nothing where none is made.
+    /// What the exchange at the end of this superstep moves, none of whose nodes runs any more: nothing if none is made.
     pub(crate) fn of(alloc: A, machine: &Machine<A>) -> Result<Tally<A>, AllocError>
         requires sound { IsSoundMachine machine.now }
         ensures { IfOk result (λ t. Tells machine.now.nodes t.count t.cells.items) }

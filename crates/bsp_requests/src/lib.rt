@@ -8,13 +8,11 @@
 //!
 //! - Requests are kept in the order in which they were added, whatever their kind: a request's place is its issue
 //!   number in the superstep.
-//! - A request or an output that would pass [`MAX_REQUESTS`] or [`MAX_BYTES`] is refused as [`AddError::TooMuch`],
-//!   before any memory is asked for. A large machine has limits of its own, [`LARGE_REQUESTS`] and [`LARGE_BYTES`]. A refused
-//!   call changes nothing.
-//! - Only the four calls that add and those that copy take memory. All else, an inbox too, works on the memory that it was given.
+//! - A request or an output that would exceed [`MAX_REQUESTS`] or [`MAX_BYTES`] is refused as [`AddError::TooMuch`], before any memory is
+//!   requested. A large machine has its own limits, [`LARGE_REQUESTS`] and [`LARGE_BYTES`]. A refused call changes nothing.
+//! - Only the four calls that add and those that copy take memory. Everything else, also an inbox, works on the memory that it was given.
 //!
-//! An add takes amortised constant time, beside the bytes that it copies. Taking the first message of an inbox takes
-//! constant time.
+//! An add takes amortised constant time, plus the time to copy its bytes. Taking the first message of an inbox takes constant time.
 #![tactic(auto)]
 
 mod inbox;

@@ -1,4 +1,4 @@
-//! Puts, gets and sends, each as it was asked for.
+//! Puts, gets and sends, as they were requested.
 
 ghost use Rattle.std.specs.Prelude.{◌≡◌, ◌+◌, ◌≤◌, length, take, drop, IfOk};
 

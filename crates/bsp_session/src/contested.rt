@@ -1,4 +1,4 @@
-//! The session that runs a program and writes what is contested in its run.
+//! The session that runs a program and writes the contested bytes of its run.
 
 ghost use Rattle.std.specs.Prelude.{◌≡◌, ◌≢◌, None, IfOk, IfErr};
 ghost use Rattle.contested_runs.specs.Runs.{TellsContested};

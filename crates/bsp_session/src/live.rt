@@ -1,4 +1,4 @@
-//! The session that writes while the run goes on.
+//! The session that writes output during the run.
 
 ghost use Rattle.std.specs.Prelude.{◌≡◌, ◌≢◌, ◌↔◌, ◌⊎◌, ◌≤◌, ℕ, [], length, take, Some, None};
 ghost use Rattle.std.specs.Prelude.{Ok, IfOk, IfErr, IsErrOf, IsSome, OnErr, OnOk, true};

@@ -1,4 +1,4 @@
-//! The session that writes while the run goes on, in one thread.
+//! The session that writes output during the run, in one thread.
 
 ghost use Rattle.std.specs.Prelude.{◌≡◌, ◌≢◌, ◌↔◌, ◌⊎◌, ◌≤◌, [], Some, None};
 ghost use Rattle.std.specs.Prelude.{IfOk, IfErr, IsErrOf, OnOk};

@@ -1,4 +1,4 @@
-//! What a session writes of a machine at its end.
+//! What a session writes about a machine at its end.
 
 ghost use Rattle.std.specs.Prelude.{◌≡◌, ◌≢◌, ◌≤◌, IfOk, IfErr, OnOk, OnErr, IsSome, Some, string_bytes, true};
 ghost use Rattle.std.specs.Io.KnownBytes.{Appends};

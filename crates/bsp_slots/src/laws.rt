@@ -7,7 +7,7 @@ ghost use Rattle.bsp_slots.specs.Area.{last_position, IsLastEntry};
 ghost use Rattle.bsp_slots.specs.Registrations.{Registrations, no_registrations, registrations_after, next_list, is_full, pushed, popped};
 ghost use Rattle.bsp_slots.specs.Registrations.{turned, HasSameShape, IsSound, max_entries, max_pushes};
 
-/// The position that is found is that of the last entry of the address, and where none is found no entry has it.
+/// The position that is found is that of the last entry of the address, and if none is found no entry has it.
 pub fn the_last_entry_is_found()
     ensures { (entries : List Area) (addr : ℕ)
         → MatchOption (last_position entries addr)
@@ -51,8 +51,7 @@ pub fn same_shape_is_an_equivalence()
         → HasSameShape s t → HasSameShape t u → HasSameShape s u }
 {}
 
-/// Where the lists in effect are equally long and the same sequence of pushes and pops was made, the next lists are
-/// equally long.
+/// If the lists in effect are equally long and the same sequence of pushes and pops was made, the next lists are equally long.
 pub fn same_shape_keeps_lengths_equal()
     ensures { (s t : Registrations) → IsSound s → IsSound t → HasSameShape s t
         → length s.in_effect ≡ length t.in_effect → length (next_list s) ≡ length (next_list t) }

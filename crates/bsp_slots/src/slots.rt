@@ -101,7 +101,7 @@ impl<A: Allocator + Copy> Slots<A> {
     /// The same registrations, for whose turn no room is made. It costs a copy of both lists and of this superstep's pushes and pops.
     ///
     /// # Errors
-    /// Where memory is refused.
+    /// If memory is refused.
     pub fn try_clone(&self, alloc: A) -> Result<Self, AllocError>
         ensures { IfOk result (λ s. s ≡ record self.now { ready = false }) }
     {

@@ -16,157 +16,153 @@ static FORMATS: [&str; 3] = ["elf", "raw", "asm"];
 const VERSION: &str = "0.1.0";
 
 const ABOUT: &str =
-    "Emulator of a bulk synchronous parallel machine whose nodes run RISC-V programs";
+    "Emulator of a bulk synchronous parallel (BSP) machine whose nodes run RISC-V programs";
 
 const FORMAT: &str =
     "Format of IMAGE: elf, an ELF executable; raw, the bytes of memory from address 0; asm, an assembly text";
 
-const IMAGE: &str = "File with the program; - for standard input";
+const IMAGE: &str = "Program file, or - for standard input";
 
-const TEXT: &str = "File with the assembly text, at most 4194304 bytes";
+const TEXT: &str = "Assembly text, at most 4194304 bytes";
 
-const SAVED_IMAGE: &str =
-    "File to save the program in; it is created, or emptied, once TEXT is open";
+const SAVED_IMAGE: &str = "ELF file to write; it is created, or emptied, as soon as TEXT is open";
 
-const NODES: &str = "Nodes of the machine, 1 to 1024";
+const NODES: &str = "Number of nodes, 1 to 1024, or to 65536 with --large";
 
-const MEMORY: &str = "Bytes of memory of each node, a multiple of 4096 from 4096 to 16777216";
+const MEMORY: &str =
+    "Bytes of memory of each node: a multiple of 4096, from 4096 to 16777216, or to 2147483648 with --large";
 
-const LIMIT: &str = "Most ticks of each node, one per instruction, 1 to 1099511627776";
+const LIMIT: &str = "Most ticks of each node, 1 to 1099511627776; an instruction takes one tick";
 
 const INPUT: &str =
-    "File that each node reads as its input, at most 16777216 bytes [default: no input]";
+    "File that each node reads as its input, at most 16777216 bytes, or 1073741824 with --large [default: no input]";
 
 const REPORT: &str =
-    "After the output write the costs of the supersteps, their total and the outcome";
+    "Write the costs of the supersteps, their total and the outcome after the output";
 
-const LIVE: &str = "Write each superstep's output as soon as it is over";
+const LIVE: &str = "Write each superstep's output as soon as the superstep is over";
 
 const PROFILE: &str =
-    "File to write what each rank did in each superstep, as CSV; it is created, or emptied, before the run";
+    "Write to FILE, as CSV, what each rank did in each superstep; FILE is created, or emptied, before the run";
 
 const COUNTS: &str =
-    "Write how many steps each address made to FILE, as CSV; the run is made in one thread, whatever --workers says";
+    "Write to FILE, as CSV, how often the instruction at each address was executed; uses one thread, whatever --workers says";
 
 const CONTESTED: &str =
-    "Write the bytes to which puts or gets of one superstep bring different values to FILE, as CSV; BSPlib leaves open which of them stay";
+    "Write to FILE, as CSV, the bytes to which puts or gets of one superstep bring different values; BSPlib leaves open which value stays";
 
 const EXPOSED: &str =
-    "Write the bytes that one call of a superstep reads and another writes, if BSPlib leaves open which comes first, to FILE, as CSV; the run is made in one thread, whatever --workers says";
+    "Write to FILE, as CSV, the bytes that one call of a superstep reads and another one writes, if BSPlib leaves open which comes first; uses one thread, whatever --workers says";
 
-const INTERACTIVE: &str = "Answer each line before the next one is read, as at a terminal";
+const INTERACTIVE: &str = "Answer each command before the next one is read, as at a terminal";
 
 const FRAMED: &str =
-    "For programs: write a line before each reply, which says how many lines the reply has and whether it is a refusal";
+    "For programs: write a header before each reply, with its number of lines and whether the command was refused";
 
-const BYTE_PRICE: &str = "Ticks that a byte of the h-relation costs in the total";
+const BYTE_PRICE: &str = "Price g: ticks that each byte of an h-relation adds to the cost";
 
-const SUPERSTEP_PRICE: &str = "Ticks that the end of a superstep costs in the total";
+const SUPERSTEP_PRICE: &str = "Price l: ticks that the end of each superstep adds to the cost";
 
 const LEDGER: &str =
-    "Version of the ledger: 2, in which h leaves out what a rank moves to itself and m counts messages, or 1, in which h counts it";
+    "How costs are counted; 2: h excludes bytes that a rank moves to itself, and m counts messages; 1: h includes these bytes";
 
 const CLOCK: &str =
-    "Give each node a clock, which call 19 reads: the cost of the supersteps that are over, and its own ticks in this one";
+    "Give each node a clock, which call 19 reads: the cost of all finished supersteps plus the node's ticks in this one";
 
-const FLOAT: &str = "Give each node a unit of floating point, for the instructions of F and D";
+const FLOAT: &str = "Give each node a floating-point unit, for the instructions of F and D";
 
-const ATOMIC: &str = "Give each node the instructions of A";
+const ATOMIC: &str = "Give each node the atomic instructions of A";
 
 const LARGE: &str =
-    "Allow a large machine: up to 65536 nodes, 2147483648 bytes of memory and 1073741824 bytes of input, and more in a superstep";
+    "Allow a large machine: up to 65536 nodes, 2147483648 bytes of memory a node, 1073741824 bytes of input, and more requests in a superstep";
 
-const LARGE_FILE: &str =
-    "Read a program that only a large machine takes: a file of at most 268435456 bytes";
+const LARGE_FILE: &str = "Accept a file of up to 268435456 bytes, as a large machine does";
 
 const FLOAT_NAMES: &str =
-    "Name instructions of floating point, as on nodes with units for them; without it they are data";
+    "Show floating-point instructions by name; without this option they are data";
 
-const ATOMIC_NAMES: &str = "Name instructions of A; without it they are data";
+const ATOMIC_NAMES: &str = "Show instructions of A by name; without this option they are data";
 
-const FLOAT_STATEMENTS: &str = "Take statements of floating point, those of F and D";
+const FLOAT_STATEMENTS: &str = "Accept floating-point instructions, those of F and D";
 
-const ATOMIC_STATEMENTS: &str = "Take statements of A";
+const ATOMIC_STATEMENTS: &str = "Accept atomic instructions, those of A";
 
-const WORKERS: &str =
-    "Most threads that run the nodes, 1 to 64; what is written does not depend on it";
+const WORKERS: &str = "Most threads that run the nodes, 1 to 64; the output does not depend on it";
 
 const SLICE: &str =
-    "Most steps of a node before another may have its thread, 1 to 1048576; what is written does not depend on it";
+    "Most instructions that a node executes before its thread may switch to another node, 1 to 1048576; the output does not depend on it";
 
 const STATUSES: &str = "Exit status:
-  0  every node ended; the debugger's lines were answered; a listing or an image was written; help or the version was
-     asked for
+  0  success; for `run`: every node ended
   1  the command line, a setting or the program was refused
-  2  a node was stopped by a fault, or by its own abort
-  3  a node still ran at its limit
-  4  nodes waited for one that had ended, or an exchange was refused
+  2  a node was stopped by a fault, or stopped itself with an abort
+  3  a node reached its limit before it ended
+  4  nodes waited for one that had already ended, or an exchange was refused
   5  memory ran out, or a thread could not be started
   6  a file could not be opened, read or written";
 
-const ASM_AFTER_HELP: &str = "A text that is refused has a line `line N: NAME` on standard error:
-  BadToken         something that is no name, number, string or sign
-  UnknownMnemonic  the statement does not begin with a name of the language
-  BadOperand       too few or too many operands, or one of another kind
-  OutOfRange       a number or the offset of a jump is out of its range, or an offset is odd
-  DuplicateLabel   the label stands in this line or an earlier one already
-  UndefinedLabel   no line has the label that is used
+const ASM_AFTER_HELP: &str = "If the text is refused, standard error has a line `line N: NAME`:
+  BadToken         not a name, number, string or operator
+  UnknownMnemonic  the statement does not begin with an instruction or a directive
+  BadOperand       too few or too many operands, or one of the wrong kind
+  OutOfRange       a number or the offset of a jump is out of range, or an offset is odd
+  DuplicateLabel   the label is already defined, in this line or an earlier one
+  UndefinedLabel   a label is used but not defined
   TooLarge         the statement ends past 16777216 bytes
-docs/manual/assembly.md has the whole language.";
+docs/manual/assembly.md describes the whole language.";
 
-const DEBUG_AFTER_HELP: &str =
-    "Lines of standard input. They are read to their end, and then answered one after another. At a terminal, and with
---interactive or --framed, each is answered before the next one is read:
-  break RANK ADDR      set a point: go stops before this rank makes a step at this address
-  break superstep K    set a point: go stops where superstep K begins
-  clear RANK ADDR      take away the point at this address
-  clear superstep K    take away the point at this superstep
-  step RANK N          make N steps of this rank, or fewer if it stops; points are not looked at
-  phase                run each rank until it stops, in rank order; points are not looked at
+const DEBUG_AFTER_HELP: &str = "Commands, one a line, on standard input. In a pipe, all lines are read first, and then answered in order. At a terminal,
+and with --interactive or --framed, each command is answered before the next one is read:
+  break RANK ADDR      set a breakpoint: go stops before this rank executes the instruction at this address
+  break superstep K    set a breakpoint: go stops at the start of superstep K
+  clear RANK ADDR      remove the breakpoint at this address
+  clear superstep K    remove the breakpoint at this superstep
+  step RANK N          execute N instructions of this rank, or fewer if it stops; ignores breakpoints
+  phase                run each rank until it stops, in rank order; ignores breakpoints
   turn                 end the superstep, if no rank is running
-  go                   run on to the next point, or to the end
+  go                   run to the next breakpoint, or to the end
   regs RANK            show where this rank is, its ticks, its state and its registers
-  fregs RANK           show the fcsr of this rank and its registers of floating point, with --float
+  fregs RANK           show the fcsr and the floating-point registers of this rank, with --float
   bytes RANK ADDR LEN  show LEN bytes of the memory of this rank
   queue RANK           show the messages that wait in the queue of this rank
   costs                show the costs of the supersteps so far, and their total
   output               show what was written in the supersteps so far
   quit                 end
-There are more lines at a terminal, and with --interactive or --framed:
-  help [LINE]          show the lines of a dialogue, or those that begin with the word LINE
-  points               show the points that are set
-  step [RANK]          make one step of this rank, or of the lowest that runs
-  over RANK            make a step of this rank, and at a call of a function all steps up to its return
+There are more commands at a terminal, and with --interactive or --framed:
+  help [LINE]          show all commands, or those that begin with the word LINE
+  points               show the breakpoints
+  step [RANK]          execute one instruction of this rank, or of the lowest rank that runs
+  over RANK            execute one instruction of this rank; if it calls a function, run until the function returns
   words RANK ADDR N    show N words of the memory of this rank
-  text RANK ADDR N     show N bytes of it as a text, or those before the first that is 0
-  list RANK ADDR N     show N instructions of it: those of F, D and A by name if the nodes have them
+  text RANK ADDR N     show N bytes of it as text, or those before the first zero byte
+  list RANK ADDR N     show N instructions of it; those of F, D and A by name if the nodes have them
   areas RANK           show the areas that this rank has registered
-  requests RANK        show what this rank has asked for in this superstep
-  where [RANK]         show where this rank, or each rank, is: its address, superstep and state
+  requests RANK        show the requests that this rank has made in this superstep
+  where [RANK]         show the address, superstep and state of this rank, or of each rank
   keep                 keep the state of the machine, under the next number from 0
-  back N               bring the machine back to state N, or forward; points stay as they are
+  back N               bring the machine back to state N, or forward; breakpoints stay as they are
   kept                 show the states that are kept, and where their ranks are
-  forget N             keep state N no longer; no other state gets this number
-With --framed a line comes before each reply: `done N`, or `refused N` if the line is refused, where N is how many lines
-the reply has. And there are still more lines:
-  nodes                show how many ranks there are, and the other settings
-  go RANK N            make N steps of this rank, or fewer if it stops or comes to a point of its own
+  forget N             discard state N; its number is not used again
+With --framed, each reply begins with a header: `done N`, or `refused N` if the command is refused. N is the number of
+lines of the reply. There are still more commands:
+  nodes                show the number of ranks, and the other settings
+  go RANK N            execute N instructions of this rank, or fewer if it stops or reaches a breakpoint of its own
   output FROM          show what was written, from byte FROM on
   costs FROM           show the costs from superstep FROM on, and the total of all
-Numbers are decimal, or hexadecimal as in 0x1f. All lines together may have 1048576 bytes. Where IMAGE is -, there are
-no lines.
+Numbers are decimal, or hexadecimal as in 0x1f. All lines together may have 1048576 bytes. If IMAGE is -, standard input
+is the program, so there are no commands.
 
-A line that is refused changes nothing, and is answered `refused: NAME`:
-  BadCommand   the line is none of these, or a number in it is too great
+A command that is refused changes nothing, and its reply is `refused: NAME`:
+  BadCommand   the command is unknown, or a number in it is too large
   BadRank      there is no such rank
-  BadRange     not all of these bytes lie in the memory
-  NoFloatUnit  the nodes have no registers of floating point: --float gives them these
-  TooMany      1024 other points are set
-  NoSuchBreak  the point is not set
+  BadRange     some of these bytes are outside the memory
+  NoFloatUnit  the nodes have no floating-point registers; with --float they have them
+  TooMany      there are 1024 other breakpoints
+  NoSuchBreak  there is no such breakpoint
   NoSuchKept   no state is kept under this number
   Over         the run has ended
-The exit status is 0 whatever was refused and however the run ended; only an error ends it with 1, 5 or 6.
-docs/manual/debugger.md has an example of each line.";
+The exit status is 0, even if commands were refused or the run failed. Only an error of the debugger itself gives 1, 5 or 6.
+docs/manual/debugger.md has an example of each command.";
 
 /// The command line of the program.
 pub fn command<'a>(alloc: Global) -> Result<Command<'a>, AllocError>
@@ -211,7 +207,7 @@ fn run_command<'a>(alloc: Global, formats: &'a [&'a str]) -> Result<Command<'a>,
     ]?;
     machine_command(alloc, "run", formats)?
         .about(
-            "Run a program on every node, superstep by superstep, and write what the nodes write",
+            "Run a program on every node, superstep by superstep, and write the output of the nodes",
         )
         .after_help(STATUSES)
         .args(arguments)
@@ -222,7 +218,7 @@ fn debug_command<'a>(alloc: Global, formats: &'a [&'a str]) -> Result<Command<'a
 {
     machine_command(alloc, "debug", formats)?
         .about(
-            "Run a program piece by piece: do what each line of standard input says, and write the answer",
+            "Debug a program: execute the commands on standard input, and write a reply to each",
         )
         .after_help(DEBUG_AFTER_HELP)
         .arg(flag(alloc, "interactive", INTERACTIVE))?
@@ -259,7 +255,7 @@ fn list_command<'a>(alloc: Global, formats: &'a [&'a str]) -> Result<Command<'a>
     ensures { IfOk result (λ command. HasApp command (list_app formats.entry)) }
 {
     Command::new(alloc, "list")
-        .about("Write each word of a program with its address and its instruction")
+        .about("List a program: each word with its address and its instruction")
         .arg(file(alloc, "image", "IMAGE", IMAGE))?
         .arg(format(alloc, formats))?
         .arg(flag(alloc, "float", FLOAT_NAMES))?
@@ -271,7 +267,7 @@ fn asm_command<'a>(alloc: Global) -> Result<Command<'a>, AllocError>
     ensures { IfOk result (λ command. HasApp command asm_app) }
 {
     Command::new(alloc, "asm")
-        .about("Assemble a text and save it as an ELF file")
+        .about("Assemble a text into an ELF file")
         .after_help(ASM_AFTER_HELP)
         .arg(file(alloc, "text", "TEXT", TEXT))?
         .arg(file(alloc, "image", "IMAGE", SAVED_IMAGE))?

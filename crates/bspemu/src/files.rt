@@ -76,7 +76,7 @@ pub fn open_image<'a, R: Files + Input>(
     }
 }
 
-/// The input at `path`, which is a file's even where it is `-`; with no path the input is empty.
+/// The input at `path`, which is a file's even if it is `-`; with no path the input is empty.
 #[inline(never)]
 pub fn open_input<'a, R: Files + Input>(
     rt: &R,
@@ -92,7 +92,7 @@ pub fn open_input<'a, R: Files + Input>(
     }
 }
 
-/// The lines that a debugger answers, where the image is at `path`: standard input, or nothing where that is the image.
+/// The lines that a debugger answers, if the image is at `path`: standard input, or nothing if that is the image.
 #[inline(never)]
 pub fn open_lines<R: Files + Input>(rt: &R, path: &str) -> Source<R::File, R::Reader>
     ensures { place_of result ≡ lines_place path.now }
@@ -103,8 +103,7 @@ pub fn open_lines<R: Files + Input>(rt: &R, path: &str) -> Source<R::File, R::Re
     }
 }
 
-/// Standard input. Where it is closed, the next file to be opened would stand in its place and be read for it: a read
-/// of no bytes tells.
+/// Standard input. If it is closed, the next file to be opened would stand in its place and be read for it: a read of no bytes tells.
 fn open_standard<R: Files + Input>(rt: &R) -> Source<R::File, R::Reader>
     ensures { place_of result ≡ standard_input }
 {
@@ -122,8 +121,8 @@ pub fn open_file<'a, R: Files>(rt: &R, path: &'a str) -> Result<R::File, CannotO
     fs::open(rt, path).map_err(|_| CannotOpen(path))
 }
 
-/// The file at `path`, to be written: it is created where there is none, and else emptied. It may not be `source`, which is
-/// still to be read, under whatever name.
+/// The file at `path`, to be written: it is created if there is none, and otherwise emptied. It may not be `source`, which is still to be
+/// read, under whatever name.
 pub fn create<'a, R: Files>(
     rt: &R,
     path: &'a str,
@@ -137,8 +136,8 @@ pub fn create<'a, R: Files>(
     fs::create(rt, path).map_err(|_| CannotOpen(path))
 }
 
-/// The file at `path` for what a run writes beside its output: it is created where there is none, and else emptied. It may be
-/// neither the image nor the input, which are still to be read, under whatever name.
+/// The file at `path` for what a run writes beside its output: it is created if there is none, and otherwise emptied. It may be neither the
+/// image nor the input, which are still to be read, under whatever name.
 #[inline(never)]
 pub fn create_beside<'a, R: Files, I>(
     rt: &R,

@@ -1,7 +1,7 @@
-//! The program `bspemu`: it runs RISC-V programs on an emulated bulk synchronous parallel machine, whole or as a debugger's lines say.
+//! The program `bspemu`: it runs RISC-V programs on an emulated bulk synchronous parallel machine, or debugs them by lines.
 //!
 //! A thin shell over [`bsp_session`] and [`bsp_console`]: [`command_line`] has the rules of the command line, [`options`] says what the
-//! words ask for by them, [`files`] opens what they name, and [`program`] runs the session on it and tells how that went, by a line on
+//! words ask for by them, [`files`] opens what they name, and [`program`] runs the session on it and reports how that went, by a line on
 //! standard error and by the exit status.
 //!
 //! What is known of it: the options are those that clap's rules give for the words, each fault of the words is one of

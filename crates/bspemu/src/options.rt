@@ -16,7 +16,7 @@ use rv_atomics::Extensions;
 use std::alloc::{AllocError, Global};
 use std::convert::AsStr;
 
-/// How many steps a node makes before it may go to another thread, where there is no other.
+/// How many steps a node makes before it may go to another thread, if there is no other.
 const SLICE: u64 = 1 << 16;
 
 const LIVE_AND_PROFILE: &str = "the argument '--live' cannot be used with '--profile <FILE>'";
@@ -85,7 +85,7 @@ pub struct DebugOptions<'a> {
     pub machine: MachineOptions<'a>,
     /// Whether each line is answered before the next one is read, wherever the lines come from.
     pub interactive: bool,
-    /// Whether each reply stands behind a header.
+    /// Whether each reply comes after a header.
     pub framed: bool,
 }
 
@@ -128,7 +128,7 @@ pub enum Action<'a> {
 /// What the words ask for; the first is the program's name.
 ///
 /// # Errors
-/// The text for the user: help where it was asked for, and else what is wrong with the words.
+/// The text for the user: help if it was asked for, and otherwise what is wrong with the words.
 pub fn action_of<'a, S: AsStr>(alloc: Global, words: &'a [S]) -> Result<Action<'a>, Error>
     ensures ok { IfOk result (AsksFor (map S.text words.entry.now)) }
     ensures err { IfErr result (IsFaultOf (map S.text words.entry.now)) }
@@ -196,7 +196,7 @@ fn options_of_run<'a>(run: &ArgMatches<'a>) -> Option<RunOptions<'a>>
     })
 }
 
-/// How a run is told, where no more than one way is asked for.
+/// How a run is told, if no more than one way is asked for.
 fn output_mode_of_run<'a>(run: &ArgMatches<'a>) -> Option<OutputMode<'a>>
     ensures some { IfSome result (GivesOutputMode (rows_of (found_of run.now))) }
     ensures none { IfNone result (IsNeverMet (GivesOutputMode (rows_of (found_of run.now)))) }
@@ -287,7 +287,7 @@ fn conflict_of(
     }
 }
 
-/// A debugger has no other thread, and tells costs where a line asks for them.
+/// A debugger has no other thread, and tells costs if a line asks for them.
 fn options_of_debug<'a>(debug: &ArgMatches<'a>) -> Option<DebugOptions<'a>>
     ensures some { IfSome result (GivesDebugOptions (rows_of (found_of debug.now))) }
     ensures none { IfNone result (IsNeverMet (GivesDebugOptions (rows_of (found_of debug.now)))) }
@@ -384,7 +384,7 @@ fn settings_of_machine(found: &ArgMatches<'_>) -> Option<Settings>
     })
 }
 
-/// The prices at which clocks count, which are those of the costs, or none where no clocks are asked for.
+/// The prices at which clocks count, which are those of the costs, or none if no clocks are asked for.
 fn clock_of(found: &ArgMatches<'_>) -> Option<Option<Prices>>
     ensures some { IfSome result (GivesClock (rows_of (found_of found.now))) }
     ensures none { IfNone result (IsNeverMet (GivesClock (rows_of (found_of found.now)))) }
@@ -426,7 +426,7 @@ fn ledger_numbered(number: u32) -> Option<LedgerText>
     }
 }
 
-/// The format with a name; a text may have the statements of these extensions, and another file has the limits of a large machine where
+/// The format with a name; a text may have the statements of these extensions, and another file has the limits of a large machine if
 /// `large` says so.
 fn format_named(name: &str, extensions: Extensions, large: bool) -> Option<Format>
     ensures some { IfSome result (λ format. (name.now ≡ name_of_format format) × IsFormatFor extensions large format) }

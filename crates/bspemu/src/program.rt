@@ -1,4 +1,4 @@
-//! From the command line to the exit status.
+//! The whole program: from the command line to the exit status.
 
 ghost use Rattle.std.specs.Prelude.{◌≡◌, ◌⊎◌, IfErr, OnOk, map};
 ghost use Rattle.clap.specs.Words.{kind_of};
@@ -16,7 +16,7 @@ use crate::options::{
 use bsp_console::{debug_dialogue, debug_framed, debug_session};
 use bsp_session::{
     Outcome, SessionError, asm_session, contested_session, counts_session, exposed_session,
-    list_session, live_session, profile_session, session, status,
+    has_too_many_nodes, list_session, live_session, profile_session, session, status,
 };
 use clap::Error;
 use clap::error::ErrorKind;
@@ -29,22 +29,17 @@ use std::sync::Wait;
 use std::thread::Threads;
 use std::{env, fmt, io};
 
-/// The status where the command line is refused.
+/// The status if the command line is refused.
 const REFUSED: u8 = 1;
 
-/// The status where a file can't be opened.
+/// The status if a file can't be opened.
 const NOT_OPENED: u8 = 6;
-
-/// The most nodes of a run with a profile.
-const PROFILED_NODES: u32 = 1_024;
 
 /// Why what was asked for was not done.
 #[derive(Clone, Copy)]
 pub enum RunError<'a> {
     /// The file at this path can't be opened.
     CannotOpen(&'a str),
-    /// A profile was asked for of a large machine that has more nodes than a profile is of.
-    TooManyNodes,
     Session(SessionError),
 }
 
@@ -56,7 +51,6 @@ impl fmt::Display for RunError<'_> {
     fn fmt<W: fmt::Write>(&self, f: &mut fmt::Formatter<W>) -> fmt::Result {
         match self {
             RunError::CannotOpen(path) => write!(f, "cannot open {path}"),
-            RunError::TooManyNodes => f.write_str("a profile is of at most 1024 nodes"),
             RunError::Session(error) => write!(f, "{error}"),
         }
     }
@@ -226,8 +220,8 @@ fn run_live<'a, R: AllocGlobal + Files + Input + Print + Threads + Wait + Sync>(
     ))
 }
 
-/// Creates the file of the profile, or empties it, and runs the session. That file may be neither the image nor the input. A profile's
-/// table has a row and a column for each node, so it is not made for more than 1,024.
+/// Creates the file of the profile, or empties it, and runs the session. That file may be neither the image nor the input. If the machine
+/// has too many nodes for a profile, the file is left as it is.
 #[inline(never)]
 fn run_profiled<'a, R: AllocGlobal + Files + Input + Print + Threads + Wait + Sync>(
     rt: &R,
@@ -237,8 +231,8 @@ fn run_profiled<'a, R: AllocGlobal + Files + Input + Print + Threads + Wait + Sy
 ) -> Result<Outcome, RunError<'a>>
     ensures { IsAnswerOfRun options.now (OutputMode.WithProfile path.entry) result }
 {
-    if options.job.settings.large && options.job.settings.nodes > PROFILED_NODES {
-        return Err(RunError::TooManyNodes);
+    if has_too_many_nodes(&options.job) {
+        return Err(RunError::Session(SessionError::TooManyNodes));
     }
     let mut profile = Counted::new(create_beside(
         rt,
@@ -360,8 +354,8 @@ fn ended<'a>(answer: Result<(), SessionError>) -> Result<Outcome, RunError<'a>>
     }
 }
 
-/// Opens what the options name, first the image, and answers the lines of standard input: as they come where they are typed at a
-/// terminal, or the options say so. Whether there is a standard input shows only before a file is open.
+/// Opens what the options name, first the image, and answers the lines of standard input: as they come if they are typed at a terminal, or
+/// the options say so. Whether there is a standard input shows only before a file is open.
 #[inline(never)]
 fn debug<'a, R: AllocGlobal + Files + Input<Reader: IsTerminal> + Print>(
     rt: &R,
@@ -443,7 +437,7 @@ fn assemble<'a, R: AllocGlobal + Files + Input>(
     ended(asm_session(rt.alloc(), options.extensions, &mut text, &mut image))
 }
 
-/// The status of an answer, after a line on standard error where it has no outcome.
+/// The status of an answer, after a line on standard error if it has no outcome.
 fn finish<R: Eprint>(rt: &R, answer: Result<Outcome, RunError<'_>>) -> u8
     ensures { result ≡ status_of_answer answer.entry }
 {
@@ -453,15 +447,14 @@ fn finish<R: Eprint>(rt: &R, answer: Result<Outcome, RunError<'_>>) -> u8
             let _ = eprintln!(rt; "bspemu: {error}");
             match error {
                 RunError::CannotOpen(_) => NOT_OPENED,
-                RunError::TooManyNodes => REFUSED,
                 RunError::Session(error) => status(&Err(error)),
             }
         }
     }
 }
 
-/// The status where the words ask for no run, after clap's text: on standard output where it is help or the version that
-/// was asked for, and else on standard error.
+/// The status if the words ask for no run, after clap's text: on standard output if it is help or the version that was asked for, and
+/// otherwise on standard error.
 fn refuse<R: Print + Eprint>(rt: &R, error: &Error) -> u8
     ensures { IsStatusOfKind (kind_of error.now) result }
 {

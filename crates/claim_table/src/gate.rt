@@ -1,4 +1,4 @@
-//! What the pool calls round the steps of each node.
+//! A gate: what the pool calls before and after the steps of each node.
 
 use node_core::Node;
 use std::alloc::Allocator;
@@ -9,7 +9,7 @@ pub trait Gate<A: Allocator> {
     /// Called before the steps of the node of a rank.
     fn enter(&self, rank: u32);
 
-    /// Called after these steps, at whose end the node is as given, also where memory was refused in one.
+    /// Called after these steps, at whose end the node is as given, also if memory was refused in one.
     fn leave(&self, rank: u32, node: &Node<A>);
 }
 

@@ -1,4 +1,4 @@
-//! A table and its keeper, who fills it, and takes the nodes out of it when no worker is counted any more.
+//! The table and its keeper, which fills it, and takes the nodes out once all workers have retired.
 
 ghost use Rattle.std.specs.Prelude.{◌≡◌, ℕ, ◌+◌, ◌<◌, ◌≤◌, [], ◌∷◌, ◌++◌, length, map, replicate, true, vec_len, vec_capacity, Some, IfOk};
 ghost use Rattle.core.specs.Mem.Slots.{slots_items, slots_len, IsFull};
@@ -48,7 +48,7 @@ impl<'p, A: Allocator + Copy> ClaimTable<'p, A> {
     /// A table to which each node of the row has come. The table is made before a node moves.
     ///
     /// # Errors
-    /// Where memory is refused. The row is as it was then.
+    /// If memory is refused. The row is as it was then.
     pub fn open(
         input: &'p [u8],
         mut row: Vec<Node<A>, A>,

@@ -1,15 +1,15 @@
 //! The table over which threads share out the nodes of a phase.
 //!
-//! Between two turns the nodes of a machine do not meet (BSP, Valiant 1990), so any thread may take any of them on. The [`ClaimTable`]
-//! has a word and a slot for each rank, and one word more that counts the workers. The [`Keeper`] takes the row of nodes to the slots,
-//! in the order of ranks. Each worker has a [`Place`]: it enrols, takes a node that is at home and runs, gives it back after a slice of
-//! its steps, takes another, and retires. When no worker is counted any more, the keeper seals the table and takes the row out of it.
+//! Between two turns the nodes of a machine do not meet (BSP, Valiant 1990), so any thread may work on any of them. The [`ClaimTable`] has
+//! a word and a slot for each rank, and one more word that counts the workers. The [`Keeper`] takes the row of nodes to the slots, in the
+//! order of ranks. Each worker has a [`Place`]: it enrols, takes a node that is at home and runs, gives it back after a slice of its steps,
+//! takes another, and retires. When all workers have retired, the keeper seals the table and takes the row out of it.
 //!
-//! What callers may rely on: [`ClaimTable::close`] gives each node of the row back, in its place, after no or some steps of its own,
-//! whatever the workers did and in whatever order: what they know of the table (`specs/ClaimSteps.antt`) and what holds of it between
-//! any two of their steps (`specs/Claims.antt`) is the rule that each step is proved to keep.
+//! What callers may rely on: [`ClaimTable::close`] gives back each node of the row, in its place, after zero or more steps of its own,
+//! whatever the workers did and in whatever order. Each step is proved to keep a rule: what the workers know of the table
+//! (`specs/ClaimSteps.antt`), and what holds for the table between any two steps (`specs/Claims.antt`).
 //!
-//! That a worker gets a node, or ever comes to its turn, is not said.
+//! Nothing is promised about progress: a worker may never get a node.
 #![tactic(auto)]
 
 mod gate;

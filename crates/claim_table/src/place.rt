@@ -1,4 +1,4 @@
-//! A place at the table, from which one worker after another may work.
+//! A place at the table. Workers can use it one after another.
 
 ghost use Rattle.std.specs.Prelude.{◌≡◌, ◌+◌, []};
 ghost use Rattle.claim_table.specs.ClaimSteps.{view_away};
@@ -46,12 +46,12 @@ impl<'t, 'p, A: Allocator + Copy> Place<'t, 'p, A> {
         }
     }
 
-    /// Works here: takes nodes that are at home and run, pass after pass over the ranks from `first` on and round, each through a
-    /// slice of its steps, and gives them back. It ends where a pass took none, or with its allowance. Where the worker cannot be
-    /// counted, since the table is sealed or others always came first, it takes none.
+    /// Works here: takes nodes that are at home and run, pass after pass over the ranks from `first` on and round, each through a slice of
+    /// its steps, and gives them back. It ends if a pass took none, or with its allowance. If the worker cannot be counted, since the table
+    /// is sealed or others always came first, it takes none.
     ///
     /// # Errors
-    /// Where memory was refused in a step. The node is back then, as its last whole step left it, and no other is taken.
+    /// If memory was refused in a step. The node is back then, as its last whole step left it, and no other is taken.
     pub fn work<G: Gate<A>>(&mut self, work: &Work<'_, G>, first: usize) -> Result<(), AllocError> {
         self.worker.work(work, first)
     }

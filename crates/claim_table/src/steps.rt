@@ -1,4 +1,4 @@
-//! What each step tells, and how a seat is made. These types are for the proofs alone.
+//! What each step reports, and how a seat is made. These types are for the proofs alone.
 
 ghost use Rattle.claim_table.specs.ClaimSteps.{view_away, Reserves, Returns, Enrols, Takes, Retires, Seals};
 

@@ -1,4 +1,4 @@
-//! A worker at the table: it is counted, takes nodes and gives them back, and is counted no longer.
+//! A worker at the table: it enrols, takes nodes and gives them back, and retires.
 
 ghost use Rattle.std.specs.Prelude.{◌≡◌, ◌+◌, ◌<◌, ◌%◌, Some};
 ghost use mathlib.Core.Option.{some};
@@ -126,7 +126,7 @@ impl<'t, 'p, A: Allocator + Copy> Worker<'t, 'p, A> {
         }
     }
 
-    /// Whether the worker could be counted. It cannot where the table is sealed, or where others always came first.
+    /// Whether the worker could be counted. It cannot if the table is sealed, or if others always came first.
     fn enrol(&mut self) -> bool
         requires { self.old.seat.me ≡ (view_away, []) }
         ensures yes { IsTrue result → self.new.seat.me ≡ (view_at_work, []) }
@@ -157,7 +157,7 @@ impl<'t, 'p, A: Allocator + Copy> Worker<'t, 'p, A> {
             .fetch_sub::<Retire>(&mut self.seat, self.ranks, 1);
     }
 
-    /// The node of a rank, where it is at home and runs. It is out with this worker then.
+    /// The node of a rank, if it is at home and runs. It is out with this worker then.
     fn take(&mut self, rank: usize) -> Option<Node<A>>
         requires within { rank < self.old.ranks }
         requires idle { self.old.seat.me ≡ (view_at_work, []) }
@@ -189,10 +189,10 @@ impl<'t, 'p, A: Allocator + Copy> Worker<'t, 'p, A> {
         self.shared.store::<Return>(&mut self.seat, rank, word);
     }
 
-    /// Takes the node of a rank through a slice of its steps, where it is at home and runs, and gives it back. Whether it was so.
+    /// Takes the node of a rank through a slice of its steps, if it is at home and runs, and gives it back. Whether it was so.
     ///
     /// # Errors
-    /// Where memory was refused in a step. The node is back then too, as its last whole step left it.
+    /// If memory was refused in a step. The node is back then too, as its last whole step left it.
     fn serve<G: Gate<A>>(&mut self, work: &Work<'_, G>, rank: usize) -> Result<bool, AllocError>
         requires within { rank < self.old.ranks }
         requires idle { self.old.seat.me ≡ (view_at_work, []) }
@@ -214,7 +214,7 @@ impl<'t, 'p, A: Allocator + Copy> Worker<'t, 'p, A> {
     /// One pass over the ranks, from the given one on and round: how many nodes it took, which are so many at most.
     ///
     /// # Errors
-    /// Where memory was refused in a step, at which the pass ends.
+    /// If memory was refused in a step, at which the pass ends.
     fn pass<G: Gate<A>>(
         &mut self,
         work: &Work<'_, G>,
@@ -240,7 +240,7 @@ impl<'t, 'p, A: Allocator + Copy> Worker<'t, 'p, A> {
     /// Passes over the ranks until one took no node, or the allowance is used up.
     ///
     /// # Errors
-    /// Where memory was refused in a step, at which the last pass ends.
+    /// If memory was refused in a step, at which the last pass ends.
     fn make_passes<G: Gate<A>>(
         &mut self,
         work: &Work<'_, G>,
@@ -263,7 +263,7 @@ impl<'t, 'p, A: Allocator + Copy> Worker<'t, 'p, A> {
     /// The whole work of a worker: it is counted, makes its passes, and is counted no longer, whatever came.
     ///
     /// # Errors
-    /// Where memory was refused in a step of a node.
+    /// If memory was refused in a step of a node.
     pub(crate) fn work<G: Gate<A>>(
         &mut self,
         work: &Work<'_, G>,

@@ -1,4 +1,4 @@
-//! What the requests of a superstep land, gathered before anything does.
+//! Gathers what the requests of a superstep will land.
 
 ghost use Rattle.std.specs.Prelude.{◌≡◌, ◌++◌, false, None, IfOk, OnOk};
 ghost use Rattle.bsp_requests.specs.Request.{asked, asks_put, asks_get};

@@ -1,4 +1,4 @@
-//! The bytes that a put or a get lands.
+//! A landing: the bytes that a put or a get writes.
 
 ghost use Rattle.std.specs.Prelude.{◌≡◌, ◌+◌, ◌≤◌, ◌<◌, ◌^◌, length, IsPermutation};
 ghost use Rattle.bsp_exchange.specs.Landings.{landing_byte};

@@ -18,8 +18,8 @@ pub fn the_order_of_keys_is_allowed()
     ensures same { (nodes : List NodeState) → exchanged nodes ≡ exchanged_in (landings nodes) nodes }
 {}
 
-/// Where no byte is contested, every order that BSPlib allows leaves the same memories, and so the same nodes. A byte that is settled is
-/// the same in each of them, whatever the others are.
+/// If no byte is contested, every order that BSPlib allows leaves the same memories, and so the same nodes. A byte that is settled is the
+/// same in each of them, whatever the others are.
 pub fn settled_bytes_are_the_same_in_every_order()
     ensures byte { (all one two : List Landing) (rank addr : ℕ) (memory : List ℕ)
         → IsSettled all rank addr → IsAllowedOrder all one → IsAllowedOrder all two → addr < length memory
@@ -52,8 +52,7 @@ pub fn each_landing_may_be_the_last()
         → MayLie nodes c.rank c.addr c.first.byte × MayLie nodes c.rank c.addr c.second.byte × (c.first.byte ≢ c.second.byte) }
 {}
 
-/// Where a byte of a memory is contested, two orders that BSPlib allows differ in it. So two different bytes may lie there after the
-/// exchange.
+/// If a byte of a memory is contested, two orders that BSPlib allows differ in it. So two different bytes may lie there after the exchange.
 pub fn contested_bytes_are_not()
     ensures memory { (all : List Landing) (rank addr : ℕ) (memory : List ℕ)
         → IsContested all rank addr → addr < length memory
@@ -64,9 +63,9 @@ pub fn contested_bytes_are_not()
         → (one two : ℕ) × MayLie nodes rank addr one × MayLie nodes rank addr two × (one ≢ two) }
 {}
 
-/// Small examples. Two puts that overlap in a byte to which both bring a 4 have no contested byte, and neither have two that touch. Where
-/// they bring a 4 and a 9 to it, that byte is contested, and no other. A put and a get's answer are as two puts. BSPlib allows both orders
-/// of two puts: in one of them the 9 lies there afterwards, and in the other the 4.
+/// Small examples. Two puts that overlap in a byte to which both bring a 4 have no contested byte, and neither have two that touch. If they
+/// bring a 4 and a 9 to it, that byte is contested, and no other. A put and a get's answer are as two puts. BSPlib allows both orders of
+/// two puts: in one of them the 9 lies there afterwards, and in the other the 4.
 pub fn examples()
     ensures alike { AreSettled (put_by_0 ∷ alike_by_2 ∷ []) }
     ensures touching { AreSettled (put_by_0 ∷ behind_by_2 ∷ []) }

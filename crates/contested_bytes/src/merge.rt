@@ -1,4 +1,4 @@
-//! Ranges in their order, each byte once.
+//! Merges ranges in order, each byte once.
 
 ghost use Rattle.std.specs.Prelude.{ℕ, ◌↔◌, List, All, IfOk, IsPermutation};
 ghost use Rattle.bsp_exchange.specs.Landings.{Landing};

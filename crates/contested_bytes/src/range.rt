@@ -25,7 +25,7 @@ pub struct Contender {
     pub byte: u8,
 }
 
-/// Contested bytes that lie one behind another in the memory of a rank.
+/// Contested bytes that lie one after another in the memory of a rank.
 #[derive(Clone, Copy, Debug, PartialEq, Eq)]
 pub struct ContestedRange {
     pub rank: u32,
@@ -37,7 +37,7 @@ pub struct ContestedRange {
 }
 
 impl ContestedRange {
-    /// Whether another range begins in this one, or right behind it.
+    /// Whether another range begins in this one, or right after it.
     fn joins(&self, other: &ContestedRange) -> bool
         requires { EndsWithin self.now }
         ensures { IsTrue result ↔ Joins self.now other.now }
@@ -45,7 +45,7 @@ impl ContestedRange {
         self.rank == other.rank && self.addr <= other.addr && other.addr <= self.addr + self.len
     }
 
-    /// With the bytes of another, which begins in this one or right behind it.
+    /// With the bytes of another, which begins in this one or right after it.
     fn with(self, other: &ContestedRange) -> ContestedRange
         requires here { EndsWithin self }
         requires there { EndsWithin other.now }
@@ -63,7 +63,7 @@ impl ContestedRange {
     }
 }
 
-/// Adds a range: to the last one, where it begins in that or right behind it, and else as one more.
+/// Adds a range: to the last one, if it begins in that or right after it, and otherwise as one more.
 pub(crate) fn add_range<A: Allocator>(
     found: &mut Vec<ContestedRange, A>,
     range: ContestedRange,

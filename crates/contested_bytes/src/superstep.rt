@@ -15,16 +15,16 @@ use crate::sweep::sweep;
 use node_core::Node;
 use std::alloc::{AllocError, Allocator};
 
-/// The contested bytes of the exchange at the end of a superstep among `nodes`: as ranges by rank and then by address, each as long
-/// as can be. Where there are none, each order that BSPlib allows leaves the same memories; in a contested byte of a memory two such
-/// orders differ ([`laws`](crate::laws)).
+/// The contested bytes of the exchange at the end of a superstep among `nodes`: as ranges by rank and then by address, each as long as can
+/// be. If there are none, each order that BSPlib allows leaves the same memories; in a contested byte of a memory two such orders differ
+/// ([`laws`](crate::laws)).
 ///
-/// The nodes are those before the exchange, each of which stands at the place of its rank and waits, and it has no fault
+/// The nodes are those before the exchange, each of which is at the place of its rank and waits, and it has no fault
 /// ([`first_fault`](bsp_exchange::first_fault)). No node changes. With n requests that move b bytes it takes time as n log n + b log b, and
 /// a copy of each byte that a get moves.
 ///
 /// # Errors
-/// Where memory is refused. It can be asked again.
+/// If memory is refused. It can be asked again.
 pub fn contested_ranges<A: Allocator + Copy>(
     alloc: A,
     nodes: &[Node<A>],

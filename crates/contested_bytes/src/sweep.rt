@@ -1,4 +1,4 @@
-//! Finds the contested bytes of landings that come by rank and then by address.
+//! Finds the contested bytes of landings that are sorted by rank and then by address.
 
 ghost use Rattle.std.specs.Prelude.{◌≡◌, ℕ, ◌≤◌, ◌<◌, ◌↔◌, ◌⊎◌, true, false, List, All, Contains, OnOk, IfOk, length, slice_index_or};
 ghost use Rattle.bsp_exchange.specs.Landings.{Landing as LandingValue};
@@ -32,7 +32,7 @@ pub(crate) fn sweep<A: Allocator + Copy>(
     Ok(found)
 }
 
-/// Which of two landings reaches further, the memories of all ranks taken one behind another.
+/// Which of two landings reaches further, the memories of all ranks taken one after another.
 fn further<A: Allocator>(all: &[Landing<A>], first: usize, second: usize) -> usize
     requires first { first < length all.now }
     requires second { second < length all.now }
@@ -55,7 +55,7 @@ fn reaches_as_far<A: Allocator>(one: &Landing<A>, other: &Landing<A>) -> bool
     one.rank < other.rank || one.rank == other.rank && one.end() <= other.end()
 }
 
-/// Adds the bytes of which two landings bring different ones. Where they share a memory, the second begins no earlier.
+/// Adds the bytes of which two landings bring different ones. If they share a memory, the second begins no earlier.
 fn compare<A: Allocator>(
     first: &Landing<A>,
     second: &Landing<A>,

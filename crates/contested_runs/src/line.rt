@@ -1,4 +1,4 @@
-//! What a line says, and its text.
+//! A line of contested bytes: its values and its text.
 
 ghost use Rattle.std.specs.Prelude.{◌≡◌, ◌++◌, OnOk, string_bytes};
 ghost use Rattle.contested_runs.specs.Lines.{range_line};

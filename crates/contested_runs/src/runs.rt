@@ -1,4 +1,4 @@
-//! A run of which is told what is contested.
+//! A run that reports contested bytes.
 
 ghost use Rattle.std.specs.Prelude.{◌≡◌, ◌++◌, ℕ, List, None, IsSome, OnOk};
 ghost use Rattle.worker_pool.specs.Answers.{IsRunAnswer};
@@ -15,8 +15,8 @@ use worker_pool::{PoolError, check_numbers, run_phase_sparing};
 /// Runs a machine to its outcome as [`worker_pool::run_sparing`] does, and tells which bytes are contested in each superstep.
 ///
 /// # Errors
-/// As [`worker_pool::run_sparing`]; [`PoolError::NoMemory`] is also answered where memory was refused for what is told. It has then the
-/// lines of the supersteps that are over, and the call made again with it appends those that are left.
+/// As [`worker_pool::run_sparing`]; [`PoolError::NoMemory`] is also answered if memory was refused for what is told. It has then the lines
+/// of the supersteps that are over, and the call made again with it appends those that are left.
 pub fn run<R: Threads + Wait + Sync, A: Allocator + Copy + Send + Sync>(
     rt: &R,
     machine: &mut Machine<A>,

@@ -1,4 +1,4 @@
-//! What is told of a run, as far as it has come.
+//! The lines that a run has reported so far.
 
 ghost use Rattle.std.specs.Prelude.{◌≡◌, ◌++◌, ℕ, List, true, IfOk, OnOk, OnErr};
 ghost use Rattle.machine_core.specs.declared.event.Event.TheVariants.{Turn as the_turn};
@@ -16,7 +16,7 @@ use std::marker::Model;
 const HEADER: &str =
     "superstep,rank,address,bytes,first_kind,first_rank,first_request,first_byte,second_kind,second_rank,second_request,second_byte\n";
 
-/// The lines that tell what is contested in a run, so far. Contracts see them as their bytes.
+/// The lines that show what is contested in a run, so far. Contracts see them as their bytes.
 #[derive(Drop)]
 pub struct Told<A: Allocator> {
     alloc: A,
@@ -35,7 +35,7 @@ impl<A: Allocator + Copy> Told<A> {
     /// The names of the columns alone.
     ///
     /// # Errors
-    /// Where memory is refused.
+    /// If memory is refused.
     pub fn new(alloc: A) -> Result<Told<A>, AllocError>
         ensures { IfOk result (λ told. told ≡ header) }
     {
@@ -46,7 +46,7 @@ impl<A: Allocator + Copy> Told<A> {
     /// Makes the turn of a machine none of whose nodes runs, and takes down what is contested in its exchange.
     ///
     /// # Errors
-    /// Where memory is refused. Neither the machine nor what is told has changed then.
+    /// If memory is refused. Neither the machine nor what is told has changed then.
     pub(crate) fn turn(&mut self, machine: &mut Machine<A>) -> Result<(), AllocError>
         requires sound { IsSoundMachine machine.old }
         requires enabled { is_enabled machine.old the_turn ≡ true }

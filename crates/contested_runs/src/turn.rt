@@ -15,7 +15,7 @@ use std::alloc::{AllocError, Allocator};
 /// The lines of the contested bytes of the turn that a machine is about to make.
 ///
 /// # Errors
-/// Where memory is refused.
+/// If memory is refused.
 pub(crate) fn turn_lines<A: Allocator + Copy>(
     alloc: A,
     machine: &Machine<A>,

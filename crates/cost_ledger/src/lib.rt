@@ -1,19 +1,20 @@
 //! The costs of a bulk synchronous run, superstep by superstep.
 //!
-//! A [`Ledger`] is a list of [`CostRow`]s, one for each superstep, in the order in which they ended. Contracts see it
-//! as that list, and whether room is made for one row more. Its total is that of the BSP cost model, `w + g h + l` summed
-//! over all rows. In h a rank's bytes to itself are left out; the first version of the ledger counted them, and each row keeps that
-//! reading too, in `h_all`, with a total of its own and lines of its own ([`LedgerText`]).
+//! A [`Ledger`] is a list of [`CostRow`]s, one for each superstep, in the order in which they ended. Contracts see it as that list, and
+//! whether there is room for one more row. Its total is that of the BSP cost model, `w + g h + l` summed over all rows. h does not count a
+//! rank's bytes to itself. The first version of the ledger counted them, so each row also has that figure, in `h_all`, with its own total
+//! and its own lines ([`LedgerText`]).
 //!
 //! Callers may rely on this:
 //!
-//! - A refused [`add`](Ledger::add) or [`prepare`](Ledger::prepare) changes nothing. Beside them only copies and lines take memory.
-//! - After `prepare` a row can be added without being refused, by [`add_prepared`](Ledger::add_prepared).
-//! - A total is exact: under the conditions of `add` no sum of costs passes 128 bits.
-//! - The lines that tell of rows are those of the definitions ([`cost_lines`], [`Ledger::lines`]).
-//! - A total is kept row by row by [`Ledger::total_with`].
-//! - The order of the rows does not change a total ([`total_ignores_order`]), and where no h is more than its `h_all`, no total is
-//!   more than that of the first version ([`total_is_at_most_v1`]).
+//! - A refused [`add`](Ledger::add) or [`prepare`](Ledger::prepare) changes nothing. Apart from these two, only copies and lines take
+//!   memory.
+//! - After `prepare`, [`add_prepared`](Ledger::add_prepared) adds a row and cannot be refused.
+//! - A total is exact: under the conditions of `add`, every sum of costs fits 128 bits.
+//! - The lines that show rows are those of the definitions ([`cost_lines`], [`Ledger::lines`]).
+//! - [`Ledger::total_with`] updates a total row by row.
+//! - The order of the rows does not change a total ([`total_ignores_order`]), and if no h is more than its `h_all`, no total is more than
+//!   that of the first version ([`total_is_at_most_v1`]).
 #![tactic(auto)]
 
 mod lines;
@@ -28,8 +29,8 @@ use std::alloc::{AllocError, Allocator};
 use std::fmt;
 use std::marker::Model;
 
-/// What one superstep cost. Its text is as `w 10 h 4 m 1 turned`, and ends with `last` where no exchange was made. That such a row has
-/// no more than its work is the machine's rule; a ledger takes what it is given.
+/// What one superstep cost. Its text is as `w 10 h 4 m 1 turned`, and ends with `last` if no exchange was made. That such a row has no more
+/// than its work is the machine's rule; a ledger takes what it is given.
 #[derive(Clone, Copy, Debug, PartialEq, Eq)]
 pub struct CostRow {
     /// The work: the most ticks that a node made.
@@ -87,7 +88,7 @@ impl<A: Allocator> Ledger<A> {
     /// The same rows, with no room made for another. It costs a copy of the rows.
     ///
     /// # Errors
-    /// Where memory is refused.
+    /// If memory is refused.
     pub fn try_clone(&self, alloc: A) -> Result<Self, AllocError>
         ensures { IfOk result (λ l. l ≡ record self.now { ready = false }) }
     {
@@ -100,7 +101,7 @@ impl<A: Allocator> Ledger<A> {
     /// Appends a row.
     ///
     /// # Errors
-    /// Where memory is refused. Nothing has changed then.
+    /// If memory is refused. Nothing has changed then.
     pub fn add(&mut self, row: CostRow) -> Result<(), AllocError>
         requires work { row.w ≤ 2 ^ 40 }
         requires relation { row.h < 2 ^ 48 }
@@ -119,7 +120,7 @@ impl<A: Allocator> Ledger<A> {
     /// Makes room for one row, which then stands until the next row is added.
     ///
     /// # Errors
-    /// Where memory is refused. Nothing has changed then.
+    /// If memory is refused. Nothing has changed then.
     pub fn prepare(&mut self) -> Result<(), AllocError>
         ensures ok { OnOk result (self.new ≡ record self.old { ready = true }) }
         ensures err { OnErr result (self.new ≡ self.old) }
@@ -166,8 +167,8 @@ impl<A: Allocator> Ledger<A> {
         sum_of_costs(LedgerText::V1, &self.rows, g, l)
     }
 
-    /// The total of all rows and of one more in a version, at `g` a byte and `l` a superstep, where `total` is that of all rows: so it is
-    /// kept row by row, in a time that does not grow with them.
+    /// The total of all rows and of one more in a version, at `g` a byte and `l` a superstep, if `total` is that of all rows: so it is kept
+    /// row by row, in a time that does not grow with them.
     #[tactic(auto, using(crate::proofs::Totals::total_with_fits, crate::proofs::Totals::total_more))]
     pub fn total_with(
         &self,
@@ -188,8 +189,8 @@ impl<A: Allocator> Ledger<A> {
         total + row.cost(version, g, l)
     }
 
-    /// The lines that tell of all rows in a version, and of their total at `g` a byte and `l` a superstep. It is an error only where
-    /// memory is refused.
+    /// The lines that show all rows in a version, and their total at `g` a byte and `l` a superstep. It is an error only if memory is
+    /// refused.
     #[tactic(auto, using(crate::proofs::Totals::total_fits))]
     pub fn lines<B: Allocator>(
         &self,
@@ -256,7 +257,7 @@ pub fn total_ignores_order()
     ensures { TotalIgnoresOrder }
 {}
 
-/// States that no total is more than that of the first version, where no row's h is more than its `h_all`.
+/// States that no total is more than that of the first version, if no row's h is more than its `h_all`.
 #[tactic(auto, using(crate::proofs::Totals::total_is_at_most_v1))]
 pub fn total_is_at_most_v1()
     ensures { TotalIsAtMostV1 }

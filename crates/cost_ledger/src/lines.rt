@@ -1,4 +1,4 @@
-//! The lines that tell of costs.
+//! The lines that show costs.
 
 ghost use Rattle.std.specs.Prelude.{◌≡◌, ◌^◌, ◌<◌, IfOk, string_bytes};
 ghost use Rattle.cost_ledger.specs.CostRow.{total_in, superstep_lines as superstep_lines_of, cost_lines as cost_lines_of};
@@ -7,8 +7,8 @@ use crate::{CostRow, LedgerText, sum_of_costs};
 use std::alloc::{AllocError, Allocator};
 use std::fmt;
 
-/// A line for each row, as `superstep 0: w 10 h 4 m 1 turned`, numbered from 0, and one for their total at `g` a byte and `l` a
-/// superstep, as `total 58`; all of them in one version. It is an error only where memory is refused.
+/// A line for each row, as `superstep 0: w 10 h 4 m 1 turned`, numbered from 0, and one for their total at `g` a byte and `l` a superstep,
+/// as `total 58`; all of them in one version. It is an error only if memory is refused.
 pub fn cost_lines<A: Allocator>(
     alloc: A,
     version: LedgerText,

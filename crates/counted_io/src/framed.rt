@@ -1,11 +1,11 @@
-//! Replies behind headers.
+//! Replies with a header before each.
 
 ghost use Rattle.std.specs.Prelude.{◌≡◌, IfOk, string_bytes};
 ghost use Rattle.counted_io.specs.Framed.{framed_text as framed_text_of, header_text, line_count as line_count_of};
 
 use std::alloc::{AllocError, Allocator};
 
-/// A reply behind its header: `done 2` or `refused 1`, with the number of its lines. It is an error only where memory is refused.
+/// A reply after its header: `done 2` or `refused 1`, with the number of its lines. It is an error only if memory is refused.
 pub fn framed_text<A: Allocator>(
     alloc: A,
     refused: bool,

@@ -3,21 +3,21 @@
 //! A [`Counted`] reader or writer passes each call on and counts the calls that fail. A contract sees it as the reader
 //! or writer inside and that count.
 //!
-//! [`read_at_most`] reads an input to its end, with a limit on its bytes, and [`write_whole`] writes an output. A
-//! [`LineReader`] gives an input's lines one by one, for those who answer a line before the next one comes: it reads only
-//! where no whole line waits. All of these end on every reader and writer, and callers may rely on this:
+//! [`read_at_most`] reads an input to its end, with a limit on its bytes, and [`write_whole`] writes an output. A [`LineReader`] gives an
+//! input's lines one by one, for callers that answer a line before the next one comes: it reads only if no whole line waits. All of these
+//! end on every reader and writer, and callers may rely on this:
 //!
-//! - Where the reader's bytes are known to contracts, `Ok` of a whole input has read all of them, `TooLong` more of them than
-//!   the limit, and every other error no more than it.
-//! - Where the writer's bytes are known, `Ok` has appended all of the output, and a fault a prefix that lacks some.
-//! - A fault of the reader or the writer is answered only where the count rose in that call.
-//! - The lines that were given are those of the bytes that were read, in their order. No byte is lost at an error, but
-//!   the one by which the input passes its limit: so the next line can be asked for again.
-//! - `NoMemory` is answered only where a growth was refused, for bytes within the limit. No clause can count refusals, or calls
-//!   of a reader or writer: the tests refuse each growth in turn, and look at each call that is passed on. That an interruption
-//!   is tried again, and how often, is shown by tests too.
+//! - If contracts know the reader's bytes, `Ok` of a whole input has read all of them, `TooLong` more of them than the limit, and every
+//!   other error no more than the limit.
+//! - If they know the writer's bytes, `Ok` has appended all of the output, and a fault has appended only a prefix.
+//! - A fault of the reader or the writer is answered only if the count rose in that call.
+//! - The lines that were given are those of the bytes that were read, in their order. At an error no byte is lost, except the one that
+//!   exceeds the limit of the input. So the next line can be requested again.
+//! - `NoMemory` is answered only if a growth was refused, for bytes within the limit. No clause can count refusals, or calls of a reader or
+//!   writer: the tests refuse each growth in turn, and look at each call that is passed on. Tests also show that an interrupted call is
+//!   tried again, and how often.
 //!
-//! [`framed_text`] sets a text behind a header that says how many lines it has, for who reads on until it is over.
+//! [`framed_text`] puts a header before a text, with its number of lines, so that a reader knows where the text ends.
 #![tactic(auto)]
 
 ghost use Rattle.std.specs.Prelude.{◌≡◌, ◌<◌, ◌≤◌, IfErr, IfOk, OnErr, OnOk, Ok, is_err, length};
@@ -197,7 +197,7 @@ pub fn read_at_most<A: Allocator + Copy, R: Read>(
     }
 }
 
-/// Writes all of `bytes`, and calls nothing where there are none.
+/// Writes all of `bytes`, and calls nothing if there are none.
 ///
 /// An interrupted write is tried again; 65,536 interruptions in a row are a fault of the writer, and so is a write that
 /// takes none of some bytes. A fault leaves the bytes before it written.

@@ -1,4 +1,4 @@
-//! The lines of a text that is read as they are wanted.
+//! A reader that reads a text line by line, only as far as needed.
 
 ghost use Rattle.std.specs.Prelude.{◌≡◌, ◌+◌, ◌<◌, ◌≤◌, ◌⊎◌, ◌∷◌, [], IfNone, IfOk, IfSome, IsOk, OnErr, OnOk, Ok, drop, false, length};
 ghost use Rattle.std.specs.Prelude.{slice_index, true, ℕ};
@@ -63,10 +63,10 @@ impl<A: Allocator> LineReader<A> {
 
     /// Goes on to the next line, and says whether there is one: [`line`](LineReader::line) gives it.
     ///
-    /// A line ends by a line feed, or by the end of the text where it has some bytes. Nothing is read where a whole line
-    /// waits, nothing after the read that brought its line feed, and nothing once the reader came to its end: there the text ends,
-    /// even if a terminal would give more. A text of more than `most` bytes is `TooLong` once the lines that end within them were
-    /// given. At an error nothing is given; what was read is kept, but for the one byte after the limit.
+    /// A line ends by a line feed, or by the end of the text if it has some bytes. Nothing is read if a whole line waits, nothing after the
+    /// read that brought its line feed, and nothing once the reader came to its end: there the text ends, even if a terminal would give
+    /// more. A text of more than `most` bytes is `TooLong` once the lines that end within them were given. At an error nothing is given;
+    /// what was read is kept, but for the one byte after the limit.
     pub fn next_line<R: Read>(&mut self, from: &mut Counted<R>) -> Result<bool, ReadError>
         ensures line { result ≡ Ok true → GivesLine self.old self.new
             ⊎ (GivesLast self.old self.new × IsOver (R.remaining from.new.inner) self.old self.new) }
@@ -117,8 +117,7 @@ impl<A: Allocator> LineReader<A> {
         Ok(is_line)
     }
 
-    /// The line that the last call of [`next_line`](LineReader::next_line) gave, without its line feed; empty where it
-    /// gave none.
+    /// The line that the last call of [`next_line`](LineReader::next_line) gave, without its line feed; empty if it gave none.
     pub fn line(&self) -> &[u8]
         ensures { result.now ≡ self.now.line }
     {
@@ -126,8 +125,8 @@ impl<A: Allocator> LineReader<A> {
     }
 }
 
-/// Where the first line feed of a text from `given` on stands; none where the text ends before it comes. The text is read on
-/// until then, unless it has ended.
+/// Where the first line feed of a text from `given` on stands; none if the text ends before it comes. The text is read on until then,
+/// unless it has ended.
 fn find_line_feed<A: Allocator, R: Read>(
     text: &mut Vec<u8, A>,
     given: usize,
@@ -196,8 +195,8 @@ fn line_feed_from(text: &[u8], start: usize) -> Option<usize>
 
 /// One read, which is appended to the text: whether it gave any bytes.
 ///
-/// It asks for no more bytes than the text has room for, and for one where it has none. The memory is asked for first,
-/// so that no byte is lost where it is refused.
+/// It asks for no more bytes than the text has room for, and for one if it has none. The memory is asked for first, so that no byte is lost
+/// if it is refused.
 fn read_more<A: Allocator, R: Read>(
     text: &mut Vec<u8, A>,
     most: usize,

@@ -1,4 +1,4 @@
-//! Registers of floating point and fcsr.
+//! The text of the floating-point registers and fcsr.
 
 ghost use Rattle.std.specs.Prelude.{◌≡◌, ◌<◌, ◌++◌, IfOk, string_bytes};
 ghost use Rattle.debug_lines.specs.Floats.{float_blanks, named_float_lines, named_float_registers as named_registers_of};
@@ -9,7 +9,7 @@ use rv_listing::EightDigits;
 use std::alloc::{AllocError, Allocator};
 use std::fmt;
 
-/// The fcsr of a node, and its registers of floating point, each by its number. It is an error only where memory is refused.
+/// The fcsr of a node, and its registers of floating point, each by its number. It is an error only if memory is refused.
 pub(crate) fn float_registers<A: Allocator>(
     alloc: A,
     rank: u32,
@@ -23,7 +23,7 @@ pub(crate) fn float_registers<A: Allocator>(
     Ok(text)
 }
 
-/// The fcsr of a node, and its registers of floating point, each by its number and its name. It is an error only where memory is refused.
+/// The fcsr of a node, and its registers of floating point, each by its number and its name. It is an error only if memory is refused.
 pub fn named_float_registers<A: Allocator>(
     alloc: A,
     rank: u32,
@@ -71,7 +71,7 @@ fn add_named<A: Allocator>(text: &mut String<A>, f: &[u64]) -> Result<(), AllocE
     Ok(())
 }
 
-/// What stands before the label of a register, so that all are eight wide.
+/// What is before the label of a register, so that all are eight wide.
 fn blanks(register: usize) -> &'static str
     ensures { result.now ≡ float_blanks register }
 {
@@ -99,7 +99,7 @@ impl fmt::Display for SixteenDigits {
     }
 }
 
-/// The value of fcsr, which displays as the names of the flags that are raised, each behind a space.
+/// The value of fcsr, which displays as the names of the flags that are raised, each after a space.
 #[derive(Clone, Copy)]
 struct FlagNames(u32);
 

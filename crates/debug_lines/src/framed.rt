@@ -1,4 +1,4 @@
-//! What dialogues and framed sessions add to the replies: those that scripts do not have.
+//! The replies that only dialogues and framed sessions have.
 
 ghost use Rattle.std.specs.Prelude.{◌≡◌, ◌≤◌, ◌++◌, length, IfOk, string_bytes};
 ghost use Rattle.cost_ledger.specs.CostRow.{ending_text, superstep_line, total_in as total_of, total_line};
@@ -12,8 +12,8 @@ use machine_core::Settings;
 use node_core::State;
 use std::alloc::{AllocError, Allocator};
 
-/// What a machine is made of, and how its costs are told: in a version of the ledger at `g` a byte and `l` a superstep. It is a line,
-/// and an error only where memory is refused.
+/// What a machine is made of, and how its costs are told: in a version of the ledger at `g` a byte and `l` a superstep. It is a line, and
+/// an error only if memory is refused.
 pub fn setup_line<A: Allocator>(
     alloc: A,
     settings: Settings,
@@ -62,7 +62,7 @@ fn number_of_version(version: LedgerText) -> u32
     }
 }
 
-/// Adds a line to a text: where the node of a rank is, in the superstep of this number. It is an error only where memory is refused.
+/// Adds a line to a text: where the node of a rank is, in the superstep of this number. It is an error only if memory is refused.
 pub fn add_place<A: Allocator>(
     text: &mut String<A>,
     rank: u32,
@@ -78,7 +78,7 @@ pub fn add_place<A: Allocator>(
 }
 
 /// The lines of the costs of a ledger from the superstep of a number on, and of the total of all supersteps, in a version of the ledger at
-/// `g` a byte and `l` a superstep. It is an error only where memory is refused.
+/// `g` a byte and `l` a superstep. It is an error only if memory is refused.
 pub fn costs_from<L: Allocator, A: Allocator>(
     alloc: A,
     ledger: &Ledger<L>,

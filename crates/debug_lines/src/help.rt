@@ -1,4 +1,4 @@
-//! What is told of the lines: to a person in a text, and to a program in a table.
+//! The help of the lines: a text for a person, and a table for a program.
 
 ghost use Rattle.std.specs.Prelude.{◌≡◌, ◌++◌, IfOk, string_bytes};
 ghost use Rattle.debug_lines.specs.Help.{alone_note, framed_row, gap, help_on, help_rows, help_text, joint};
@@ -17,7 +17,7 @@ pub enum Audience {
     Program,
 }
 
-/// What is told of all lines. It is an error only where memory is refused.
+/// What is told of all lines. It is an error only if memory is refused.
 pub fn help_text<A: Allocator>(alloc: A, audience: Audience) -> Result<String<A>, AllocError>
     ensures { IfOk result (λ text. string_bytes text ≡ help_text audience) }
 {
@@ -29,7 +29,7 @@ pub fn help_text<A: Allocator>(alloc: A, audience: Audience) -> Result<String<A>
     Ok(text)
 }
 
-/// Adds to a text what is told of the lines with one first word. It is an error only where memory is refused.
+/// Adds to a text what is told of the lines with one first word. It is an error only if memory is refused.
 pub fn add_help<A: Allocator>(
     text: &mut String<A>,
     audience: Audience,
@@ -89,7 +89,7 @@ impl fmt::Display for Usage {
     }
 }
 
-/// Displays as how the lines of the other form are spelled, if there is one, and what stands before that.
+/// Displays as how the lines of the other form are spelled, if there is one, and what is before that.
 #[derive(Clone, Copy)]
 struct OtherUsage(Topic);
 
@@ -128,14 +128,14 @@ impl fmt::Display for Spelled {
     }
 }
 
-/// What stands before operands, if there are any.
+/// What is before operands, if there are any.
 fn gap(operands: &str) -> &'static str
     ensures { result.now ≡ gap operands.now }
 {
     if operands.is_empty() { "" } else { " " }
 }
 
-/// What is told behind the first form of lines.
+/// What is told after the first form of lines.
 fn alone_note(sessions: Sessions) -> &'static str
     ensures { result.now ≡ alone_note sessions }
 {

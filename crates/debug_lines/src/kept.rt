@@ -1,4 +1,4 @@
-//! How the states that a debugger keeps are told.
+//! The text of the states that a debugger keeps.
 
 ghost use Rattle.std.specs.Prelude.{◌≡◌, ◌++◌, List, map, IfOk, string_bytes};
 ghost use Rattle.std.specs.List.{flat_map};
@@ -12,8 +12,8 @@ use rv_listing::EightDigits;
 use std::alloc::{AllocError, Allocator};
 use std::mem;
 
-/// Adds to a text the line of a state that is kept under a number: its superstep, and where its nodes are. Those of ranks in a row that
-/// are at one place are told as one. It is an error only where memory is refused.
+/// Adds to a text the line of a state that is kept under a number: its superstep, and where its nodes are. Those of ranks in a row that are
+/// at one place are told as one. It is an error only if memory is refused.
 pub fn add_kept<A: Allocator, B: Allocator + Copy>(
     alloc: B,
     text: &mut String<B>,
@@ -70,7 +70,7 @@ fn alone<A: Allocator, B: Allocator>(alloc: B, node: &Node<A>) -> Result<Group<B
     })
 }
 
-/// Has a group take a node in where that is at its place; else adds the group to a text, and the node begins the next one.
+/// Has a group take a node in if that is at its place; else adds the group to a text, and the node begins the next one.
 fn add_next<A: Allocator, B: Allocator + Copy>(
     alloc: B,
     text: &mut String<B>,

@@ -1,23 +1,21 @@
 //! The language of a debugger: what its lines ask for, and the texts that answer them.
 //!
-//! A line is words, parted by spaces: `break 1 0x10`, `step 0 100`, `regs 2`. [`parse_line`] says what it asks for, as a [`Line`];
-//! [`reply_text`] gives the lines that tell of a [`Reply`](bsp_debug::Reply); and a [`Verdict`] displays as the line of an answer
-//! that has none.
+//! A line is words, separated by spaces: `break 1 0x10`, `step 0 100`, `regs 2`. [`parse_line`] says what it asks for, as a [`Line`].
+//! [`reply_text`] gives the lines of a [`Reply`](bsp_debug::Reply). A [`Verdict`] displays as the line of an answer without a reply.
 //!
 //! There are three such languages, each with the lines of the one before it and some more: that of scripts, that of dialogues
 //! ([`parse_dialogue_line`]) and that of framed sessions ([`parse_framed_line`]). [`add_place`], [`add_kept`], [`point_lines`],
-//! [`shown_text`], [`area_lines`], [`request_lines`], [`help_text`], [`setup_line`] and [`costs_from`] give what answers the lines that
-//! scripts do not have, and [`named_registers`] and [`named_float_registers`] what tells of a node in a dialogue.
+//! [`shown_text`], [`area_lines`], [`request_lines`], [`help_text`], [`setup_line`] and [`costs_from`] answer the lines that scripts do not
+//! have. [`named_registers`] and [`named_float_registers`] show a node in a dialogue.
 //!
 //! Callers may rely on this:
 //!
-//! - No line takes memory to parse, and each is what the definitions make of its words, [`Line::Unknown`] where they are those of
-//!   no line.
-//! - Of words of no line a dialogue knows whether the first is that of some lines, and a refusal tells how these are spelled.
-//! - The words are parted by spaces alone, of any number, and those at the ends count for nothing. Any other byte is part of a word.
-//! - Numbers are those of `numerals`. A line with a number that its place has no room for is unknown: ranks, addresses and lengths have
-//!   32 bits, counts and numbers of supersteps 64.
-//! - The text of a reply is that of the definitions, with a line feed at the end of each line, and is refused nothing but memory.
+//! - No line takes memory to parse, and each is what the definitions make of its words: [`Line::Unknown`] if no line has them.
+//! - If no line has the words, a dialogue knows whether some lines have the first word. Its refusal then shows how these lines are spelled.
+//! - Only spaces separate words, any number of them, and spaces at the ends do not matter. Any other byte is part of a word.
+//! - Numbers are those of `numerals`. A line is unknown if a number in it is too large: ranks, addresses and lengths have 32 bits, counts
+//!   and numbers of supersteps 64.
+//! - The text of a reply is that of the definitions, with a line feed at the end of each line. It can fail only for lack of memory.
 //!
 //! The language is this project's own.
 #![tactic(auto)]

@@ -1,4 +1,4 @@
-//! What a line asks for.
+//! The parser of a line: what it asks for.
 
 ghost use Rattle.std.specs.Prelude.{◌≡◌};
 ghost use Rattle.debug_lines.specs.Lines.{line_of, line_of_words, line_of_one, command_of_one, line_of_two};
@@ -75,9 +75,9 @@ pub enum Line {
     Empty,
     /// Nothing that there is: its words are those of none of these, or a number is too great for its place.
     Unknown,
-    /// The same in a dialogue, where the first word is that of these lines.
+    /// The same in a dialogue, if the first word is that of these lines.
     Misused(Topic),
-    /// The same in a dialogue, where the first word is that of no line, or help is asked on a word that is that of none.
+    /// The same in a dialogue, if the first word is that of no line, or help is asked on a word that is that of none.
     NoLine,
 }
 
@@ -120,7 +120,7 @@ fn mistake_of(line: &[u8]) -> Line
     }
 }
 
-/// Whether a line asks for help on one word, by its first word and what stands behind that.
+/// Whether a line asks for help on one word, by its first word and what is after that.
 fn asks_help(word: &[u8], others: &[u8]) -> bool
     ensures { result ≡ asks_help word.now (words others.now) }
 {
@@ -270,7 +270,7 @@ fn form_named(word: &[u8]) -> Option<Form>
     }
 }
 
-/// A line that shows memory, by its words behind the first.
+/// A line that shows memory, by its words after the first.
 fn shown_of(form: Form, rank: &[u8], addr: &[u8], count: &[u8]) -> Option<Line>
     ensures { result ≡ shown_of form rank.now addr.now count.now }
 {
@@ -324,7 +324,7 @@ fn framed_of_two(word: &[u8], operand: &[u8]) -> Option<Line>
     from_line_of(word, operand).or(help_line_of(Audience::Program, word, operand))
 }
 
-/// A line that asks for what is behind a number.
+/// A line that asks for what is after a number.
 fn from_line_of(word: &[u8], number: &[u8]) -> Option<Line>
     ensures { result ≡ from_line_of word.now number.now }
 {
@@ -348,7 +348,7 @@ fn framed_of_three(word: &[u8], rank: &[u8], count: &[u8]) -> Option<Line>
     }
 }
 
-/// A command to go on by one rank, by its words behind the first.
+/// A command to go on by one rank, by its words after the first.
 fn go_of(rank: &[u8], count: &[u8]) -> Option<Line>
     ensures { result ≡ go_of rank.now count.now }
 {
@@ -464,7 +464,7 @@ fn point_of(first: &[u8], second: &[u8]) -> Option<Point>
     }
 }
 
-/// A command to step, by its words behind the first.
+/// A command to step, by its words after the first.
 fn step_of(rank: &[u8], count: &[u8]) -> Option<Line>
     ensures { result ≡ step_of rank.now count.now }
 {
@@ -473,7 +473,7 @@ fn step_of(rank: &[u8], count: &[u8]) -> Option<Line>
     Some(Line::Command(Command::Step { rank, count }))
 }
 
-/// A command to read memory, by its words behind the first.
+/// A command to read memory, by its words after the first.
 fn bytes_of(rank: &[u8], addr: &[u8], len: &[u8]) -> Option<Line>
     ensures { result ≡ bytes_of rank.now addr.now len.now }
 {

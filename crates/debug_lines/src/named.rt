@@ -9,7 +9,7 @@ use rv_listing::EightDigits;
 use std::alloc::{AllocError, Allocator};
 use std::fmt;
 
-/// A node, and its registers, each by its number and its name. It is an error only where memory is refused.
+/// A node, and its registers, each by its number and its name. It is an error only if memory is refused.
 pub fn named_registers<A: Allocator>(
     alloc: A,
     rank: u32,
@@ -38,7 +38,7 @@ fn add_named<A: Allocator>(text: &mut String<A>, x: &[u32]) -> Result<(), AllocE
     Ok(())
 }
 
-/// What stands before the label of a register, so that all are seven wide.
+/// What is before the label of a register, so that all are seven wide.
 fn blanks(register: usize) -> &'static str
     ensures { result.now ≡ blanks_before register }
 {

@@ -3,7 +3,7 @@
 use rv_listing::TwoDigits;
 use std::fmt;
 
-/// Bytes, which display as two hexadecimal digits each, and as `-` where there are none.
+/// Bytes, which display as two hexadecimal digits each, and as `-` if there are none.
 #[derive(Clone, Copy)]
 pub(crate) struct Octets<'a>(pub &'a [u8]);
 

@@ -18,8 +18,8 @@ use rv_listing::{EightDigits, TwoDigits};
 use std::alloc::{AllocError, Allocator};
 use std::fmt;
 
-/// The lines of a reply, each with the line feed that ends it, and costs in a version of the ledger at `g` a byte and `l` a
-/// superstep. It is an error only where memory is refused.
+/// The lines of a reply, each with the line feed that ends it, and costs in a version of the ledger at `g` a byte and `l` a superstep. It
+/// is an error only if memory is refused.
 ///
 /// A reply of costs has the rows of `ledger`: those of the machine that gave it. So their total fits, whatever the prices.
 pub fn reply_text<A: Allocator, L: Allocator, B: Allocator>(

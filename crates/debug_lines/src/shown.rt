@@ -21,7 +21,7 @@ use rv_atomics::Extensions;
 use rv_listing::{EightDigits, Lines, ShownLine, word_at};
 use std::alloc::{AllocError, Allocator};
 
-/// Points, a line for each. It is an error only where memory is refused.
+/// Points, a line for each. It is an error only if memory is refused.
 pub fn point_lines<A: Allocator>(alloc: A, points: &[Point]) -> Result<String<A>, AllocError>
     ensures { IfOk result (λ text. string_bytes text ≡ point_lines points.now) }
 {
@@ -39,7 +39,7 @@ fn add_point<A: Allocator>(text: &mut String<A>, point: Point) -> Result<(), All
     writeln!(text, "{}", PointText(point))
 }
 
-/// How many bytes to show for so many words, characters or codes, where so many bytes are left up to the end of the memory.
+/// How many bytes to show for so many words, characters or codes, if so many bytes are left up to the end of the memory.
 pub fn shown_len(form: Form, count: u32, left: u32) -> u32
     ensures { result ≡ shown_len form count left }
 {
@@ -63,8 +63,8 @@ fn unit_of(form: Form) -> u64
     }
 }
 
-/// Bytes from the address `addr` on, as so many words, characters or codes. Among codes instructions of these extensions have their
-/// names, and those of others are data. It is an error only where memory is refused.
+/// Bytes from the address `addr` on, as so many words, characters or codes. Among codes instructions of these extensions have their names,
+/// and those of others are data. It is an error only if memory is refused.
 pub fn shown_text<A: Allocator, B: Allocator>(
     alloc: B,
     form: Form,
@@ -95,7 +95,7 @@ fn word_lines<B: Allocator>(alloc: B, addr: u32, bytes: &[u8]) -> Result<String<
     Ok(text)
 }
 
-/// Adds to a text the word at a place among those of bytes from an address on, behind the address where it begins a row.
+/// Adds to a text the word at a place among those of bytes from an address on, after the address if it begins a row.
 fn add_word<B: Allocator>(
     text: &mut String<B>,
     addr: u32,
@@ -114,7 +114,7 @@ fn add_word<B: Allocator>(
     Ok(())
 }
 
-/// Adds to a text the address of the word at a place, where it begins a row.
+/// Adds to a text the address of the word at a place, if it begins a row.
 fn add_head<B: Allocator>(text: &mut String<B>, addr: u32, at: usize) -> Result<(), AllocError>
     requires { addr + 4 * at < 2 ^ 32 }
     ensures { IfOk result (λ _. string_bytes text.new ≡ string_bytes text.old ++ word_head addr at) }
@@ -198,7 +198,7 @@ fn add_codes<B: Allocator>(
     Ok(())
 }
 
-/// The areas that a node has registered, a line for each. It is an error only where memory is refused.
+/// The areas that a node has registered, a line for each. It is an error only if memory is refused.
 pub fn area_lines<A: Allocator + Copy, B: Allocator>(
     alloc: B,
     slots: &Slots<A>,
@@ -236,7 +236,7 @@ fn add_area<B: Allocator>(text: &mut String<B>, number: usize, area: Area) -> Re
     writeln!(text, "area {number} at {addr} size {size}")
 }
 
-/// What a node has asked for, a line for each request. It is an error only where memory is refused.
+/// What a node has asked for, a line for each request. It is an error only if memory is refused.
 pub fn request_lines<A: Allocator + Copy, B: Allocator>(
     alloc: B,
     requests: &Requests<A>,

@@ -77,7 +77,7 @@ pub(crate) enum Sessions {
 /// A form of the lines with one first word.
 #[derive(Clone, Copy)]
 pub(crate) struct LineForm {
-    /// What stands behind that word: operands in capitals, and what can be left out in brackets.
+    /// What is after that word: operands in capitals, and what can be left out in brackets.
     pub(crate) operands: &'static str,
     /// What a line of the form does.
     pub(crate) purpose: &'static str,
@@ -174,22 +174,19 @@ pub(crate) fn first_form(topic: Topic) -> LineForm
 {
     match topic {
         Topic::Break => in_both("RANK ADDR", "sets a point, at which go stops"),
-        Topic::Clear => in_both("RANK ADDR", "takes a point away"),
+        Topic::Clear => in_both("RANK ADDR", "removes a point"),
         Topic::Points => in_both("", "the points that are set"),
-        Topic::Go => in_both("", "goes on to a point or to the outcome"),
+        Topic::Go => in_both("", "runs on to a point or to the outcome"),
         Topic::Step => in_both("", "the next instruction of all"),
         Topic::Over => in_both(
             "RANK",
             "an instruction of a rank, with all of a function that it calls",
         ),
-        Topic::Phase => in_both("", "every rank goes on until it stops by itself"),
+        Topic::Phase => in_both("", "runs every rank until it stops by itself"),
         Topic::Turn => in_both("", "ends the superstep, if no rank runs any more"),
         Topic::Where => in_both("[RANK]", "where the ranks are, or one"),
         Topic::Regs => in_both("RANK", "the registers of a rank"),
-        Topic::Fregs => in_both(
-            "RANK",
-            "the registers of floating point of a rank, and fcsr",
-        ),
+        Topic::Fregs => in_both("RANK", "the floating-point registers of a rank, and fcsr"),
         Topic::Codes => in_both("RANK ADDR N", "N instructions from ADDR on"),
         Topic::Bytes => in_both("RANK ADDR LEN", "LEN bytes of memory"),
         Topic::Words => in_both("RANK ADDR N", "N words of four bytes"),
@@ -203,7 +200,7 @@ pub(crate) fn first_form(topic: Topic) -> LineForm
         Topic::Keep => in_both("", "keeps the state under the next number"),
         Topic::Kept => in_both("", "the states that are kept"),
         Topic::Back => in_both("N", "goes back to a state that is kept"),
-        Topic::Forget => in_both("N", "keeps a state no longer"),
+        Topic::Forget => in_both("N", "drops a kept state"),
         Topic::Costs => in_dialogues("", "what the supersteps that are over cost"),
         Topic::Output => in_dialogues("", "what was written in the supersteps that are over"),
         Topic::Nodes => in_framed("", "how many ranks there are, and the other settings"),

@@ -1,4 +1,4 @@
-//! What a line is answered that has no reply.
+//! The answers to lines that have no reply, such as refusals.
 
 ghost use Rattle.std.specs.Prelude.{◌≡◌};
 ghost use Rattle.debug_lines.specs.Verdicts.{advice};
@@ -21,7 +21,7 @@ pub enum Verdict {
     BadCommand,
     /// It has the first word of these lines, and is none of them: `refused: BadCommand: the line is over RANK`.
     Misused(Topic),
-    /// It has the first word of no line: `refused: BadCommand: there is no such line; help tells the lines`.
+    /// It has the first word of no line: `refused: BadCommand: there is no such line; help lists the lines`.
     NoLine,
 }
 
@@ -45,13 +45,13 @@ impl fmt::Display for Verdict {
             }
             Verdict::NoLine => write!(
                 f,
-                "refused: BadCommand: there is no such line; help tells the lines\n"
+                "refused: BadCommand: there is no such line; help lists the lines\n"
             ),
         }
     }
 }
 
-/// What is told behind the name of a refusal.
+/// What is told after the name of a refusal.
 fn advice_on(error: DebugError) -> &'static str
     ensures { result.now ≡ advice error }
 {

@@ -5,7 +5,7 @@ ghost use Rattle.std.specs.List.{position_or_len, prefix_len};
 ghost use Rattle.std.specs.Option.{option_map_or};
 ghost use Rattle.debug_lines.specs.Words.{is_space, words};
 
-/// The first word of a line, and what stands behind it; none where there is no word.
+/// The first word of a line, and what is after it; none if there is no word.
 pub(crate) fn split_word(line: &[u8]) -> Option<(&[u8], &[u8])>
     ensures { words line.now ≡ option_map_or (λ split. split.0.now ∷ words split.1.now) result [] }
 {

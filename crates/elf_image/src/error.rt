@@ -12,7 +12,7 @@ pub enum ElfError {
     NotElf,
     /// It is not of 32 bits, not little-endian, or of an unknown version of the format.
     NotElf32Little,
-    /// It is no executable file: an object file or a shared library.
+    /// It is not an executable file: an object file or a shared library.
     NotExecutable,
     /// It is not for RISC-V.
     NotRiscV,

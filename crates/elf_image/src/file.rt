@@ -1,4 +1,4 @@
-//! A file that is ELF for RISC-V, and its table of program headers.
+//! An ELF file for RISC-V, and its table of program headers.
 
 ghost use Rattle.std.specs.Prelude.{◌≡◌, ◌+◌, ◌<◌, ◌≤◌, ◌^◌, length, None, IfOk};
 ghost use Rattle.std.specs.Result.{result_err};
@@ -87,7 +87,7 @@ impl<'a> ElfFile<'a> {
         Ok(())
     }
 
-    /// The bytes of a segment in the file. Where it has none, it may stand anywhere.
+    /// The bytes of a segment in the file. If it has none, it may stand anywhere.
     pub(crate) fn segment_bytes(&self, header: &ProgramHeader) -> &'a [u8]
         requires { 0 < header.now.p_filesz
             → header.now.p_offset + header.now.p_filesz ≤ length self.now }
@@ -140,8 +140,7 @@ fn check_layout(len: usize, header: &FileHeader) -> Result<(), ElfError>
     Ok(())
 }
 
-/// Looks for the first fault of a program header in a file of `len` bytes, where the segments up to and with this one have
-/// `so_far` bytes.
+/// Looks for the first fault of a program header in a file of `len` bytes, if the segments up to and with this one have `so_far` bytes.
 fn check_program_header(
     large: bool,
     len: usize,

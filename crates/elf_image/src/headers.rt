@@ -1,4 +1,4 @@
-//! The headers of a file, read where they stand, by the names of the System V ABI.
+//! The headers of a file, read in place, by the names of the System V ABI.
 
 ghost use Rattle.std.specs.Prelude.{◌≡◌, ◌≤◌, length, if◌then◌else◌};
 

@@ -1,4 +1,4 @@
-//! Facts about files and images. There is nothing to run: a caller calls one for what it ensures.
+//! Laws of files and images. There is nothing to run: a caller calls one for what it ensures.
 
 ghost use Rattle.std.specs.Prelude.{Bool, ◌≡◌, ◌≤◌, ◌^◌, length, false, None, sum_by};
 ghost use Rattle.node_memory.specs.Image.{Image, Segment};

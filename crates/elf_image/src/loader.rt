@@ -1,4 +1,4 @@
-//! Images out of files.
+//! Loads images from files.
 
 ghost use Rattle.std.specs.Prelude.{Bool, ◌≡◌, ◌≢◌, ◌+◌, ◌<◌, ◌≤◌, ◌^◌, ◌↔◌, length, Some, None, IfOk, IfErr, OnOk, IsErrOf};
 ghost use Rattle.elf_image.specs.declared.error.ElfError.{ElfError as ElfErrorValue};

@@ -50,7 +50,7 @@ pub struct Call {
     /// Its number among the calls of that rank. Parts of one call have the same.
     pub number: u32,
     pub sort: Sort,
-    /// Where in the code it is made, or whatever else tells calls apart for the asker.
+    /// Where in the code it is made, or whatever else distinguishes calls for the asker.
     pub place: u32,
     /// How many bytes it reads, and writes.
     pub len: u32,
@@ -84,7 +84,7 @@ impl Call {
         self.sort.reads_at_call() && (self.caller == other.caller && self.number <= other.number)
     }
 
-    /// The place of its first source byte in the memories of all ranks, one behind another.
+    /// The place of its first source byte in the memories of all ranks, one after another.
     pub(crate) fn source_key(&self) -> u128
         ensures value { result ≡ source_key self.now }
         ensures most { result < 2 ^ 64 }
@@ -92,7 +92,7 @@ impl Call {
         self.source_rank as u128 * (1 << 32) + self.source as u128
     }
 
-    /// The place of its first target byte in the memories of all ranks, one behind another.
+    /// The place of its first target byte in the memories of all ranks, one after another.
     pub(crate) fn target_key(&self) -> u128
         ensures value { result ≡ target_key self.now }
         ensures most { result < 2 ^ 64 }

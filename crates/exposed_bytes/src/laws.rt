@@ -9,7 +9,7 @@ ghost use Rattle.exposed_bytes.specs.Examples.{send_by_0, put_to_0};
 ghost use Rattle.exposed_bytes.specs.Exposed.{IsExposed, Reads, Writes, is_open, is_unbuffered};
 ghost use Rattle.exposed_bytes.specs.Found.{AreExposures, HavePlacesOfTheirOwn, IsIn};
 
-/// It is open which comes first, that a call reads a byte or that one writes it, just where BSPlib allows both orders: a course of the
+/// It is open which comes first, that a call reads a byte or that one writes it, exactly if BSPlib allows both orders: a course of the
 /// superstep in which the one is first, and another in which the other is.
 pub fn open_bytes_may_come_in_both_orders()
     ensures { (calls : List Call) (reader writer : Call) (rank addr : ℕ)
@@ -29,8 +29,8 @@ pub fn unbuffered_calls_alone_expose()
         → IsExposed calls rank addr → (c : Call) × Contains calls c × IsTrue (is_unbuffered c.sort) }
 {}
 
-/// What is told are the exposed bytes: each byte of a range is one, and where no range is told there is none. If each call has a place of
-/// its own, all of them are in ranges.
+/// What is told are the exposed bytes: each byte of a range is one, and if no range is told there is none. If each call has a place of its
+/// own, all of them are in ranges.
 pub fn what_is_told_is_exposed()
     ensures exposed { (calls : List Call) (found : List Exposure) (rank addr : ℕ)
         → AreExposures calls found → IsIn found rank addr → IsExposed calls rank addr }

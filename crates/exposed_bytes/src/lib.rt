@@ -9,14 +9,14 @@
 //!
 //! What callers may rely on:
 //!
-//! - Each range is just what its two calls expose: no byte too many, and none too few.
-//! - Of each two places in the code from which two calls expose bytes there is one range, and not another. If each call has a place of its
-//!   own, every exposed byte is in a range. If there is no range, no byte is exposed.
+//! - Each range is exactly what its two calls expose.
+//! - Any two places in the code whose calls expose bytes have exactly one range. If each call has its own place, every exposed byte is in a
+//!   range. If there is no range, no byte is exposed.
 //! - [`laws`]: it is open which of two calls comes first exactly if BSPlib allows both orders. The order in which calls are listed does not
 //!   matter, and without an unbuffered call nothing is exposed.
 //!
-//! Only ranges count, and no values. What a rank itself reads and writes is no call. Two calls that write one byte are no matter of this
-//! crate: such bytes are contested.
+//! Only ranges count, not values. A rank's own loads and stores are not calls. This crate does not look for two calls that write the same
+//! byte: `contested_bytes` does.
 #![tactic(auto)]
 
 mod call;

@@ -10,15 +10,15 @@ use crate::call::Call;
 use crate::exposure::{Exposure, add_pair};
 use std::alloc::{AllocError, Allocator};
 
-/// The exposed bytes of a superstep, by its calls in any order: each range with the call that reads it and the one that writes it. Of
-/// calls from the same two places one range is told, so all are if each call has a place of its own. None is told just where no byte is
-/// exposed ([`laws`](crate::laws)).
+/// The exposed bytes of a superstep, by its calls in any order: each range with the call that reads it and the one that writes it. Of calls
+/// from the same two places one range is told, so all are if each call has a place of its own. None is told exactly if no byte is exposed
+/// ([`laws`](crate::laws)).
 ///
 /// With n calls, of which p pairs share bytes of which an unbuffered one reads or writes them, and r ranges, it takes time as
 /// n log n + p r.
 ///
 /// # Errors
-/// Where memory is refused. It can be asked again.
+/// If memory is refused. It can be asked again.
 pub fn exposures<A: Allocator + Copy>(
     alloc: A,
     calls: &[Call],

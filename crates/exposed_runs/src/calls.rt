@@ -1,4 +1,4 @@
-//! The calls of a superstep, from its requests and what was noted of them.
+//! The calls of a superstep, from its requests and their notes.
 
 ghost use Rattle.std.specs.Prelude.{◌≡◌, ◌++◌, false, IfOk, None, Some, OnOk, option_copied, option_map, slice_get};
 ghost use Rattle.bsp_requests.specs.Request.{Asked, asked, asks_put, asks_get};

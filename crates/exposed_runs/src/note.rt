@@ -1,4 +1,4 @@
-//! What the registers of a node say as it makes a request.
+//! A note of a request: what the registers of the node show when it makes the request.
 
 ghost use Rattle.std.specs.Prelude.{◌≡◌};
 ghost use Rattle.exposed_runs.specs.Notes.{note_of};

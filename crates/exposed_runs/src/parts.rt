@@ -1,4 +1,4 @@
-//! The local parts of a superstep, and what is noted of their requests.
+//! The local parts of a superstep, with a note of each request.
 
 ghost use Rattle.std.specs.Prelude.{◌≡◌, ◌++◌, ℕ, false, replicate, IfOk, OnErr, OnOk, option_map, slice_get};
 ghost use Rattle.std.specs.Option.{option_map_or};
@@ -17,7 +17,7 @@ use std::alloc::{AllocError, Allocator};
 /// Makes the local parts of a superstep, rank by rank, and notes which calls make its requests.
 ///
 /// # Errors
-/// Where memory is refused. The steps before that are made.
+/// If memory is refused. The steps before that are made.
 pub(crate) fn note_parts<A: Allocator + Copy>(
     alloc: A,
     machine: &mut Machine<A>,

@@ -1,4 +1,4 @@
-//! A run of which is told what is exposed.
+//! A run that reports exposed bytes.
 
 ghost use Rattle.std.specs.Prelude.{◌≡◌, ℕ, IfOk, OnErr, OnOk, string_bytes};
 ghost use Rattle.machine_core.specs.Turn.{IsRunToEnd};
@@ -17,7 +17,7 @@ const HEADER: &str =
 /// Runs a machine to its outcome, in one thread and step by step, and answers which bytes are exposed in each superstep.
 ///
 /// # Errors
-/// Where memory is refused. What was made before it stands, and any run can go on with the machine.
+/// If memory is refused. What was made before it stands, and any run can go on with the machine.
 pub fn run<A: Allocator + Copy>(alloc: A, machine: &mut Machine<A>) -> Result<String<A>, AllocError>
     ensures ok { OnOk result (IsRunToEnd machine.old machine.new) }
     ensures told { IfOk result (λ text. TellsExposed machine.old (string_bytes text)) }

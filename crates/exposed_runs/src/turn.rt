@@ -17,7 +17,7 @@ use std::alloc::{AllocError, Allocator};
 /// Appends the lines of the exposed bytes of the turn that a machine is about to make, by what was noted of its superstep.
 ///
 /// # Errors
-/// Where memory is refused.
+/// If memory is refused.
 pub(crate) fn write_turn<A: Allocator + Copy>(
     alloc: A,
     machine: &Machine<A>,

@@ -1,4 +1,4 @@
-//! A test allocator that counts the requests for memory and fails those that it was told to fail.
+//! A test allocator that counts the requests for memory and fails those that a test chooses.
 //!
 //! A [`FailingAllocator`] wraps another allocator and passes each call on to it, except the requests that it fails.
 //! A test takes a handle to it by `&`, which is an allocator too and is `Copy`, fails request 1, 2, 3, .. of a call in
@@ -11,18 +11,18 @@
 //! assert!(rt; items.push(7).is_err());
 //! ```
 //!
-//! - A request is a call of `allocate`, `grow` or `shrink`, so each growth of a vector is one. Giving a block back is none.
+//! - A request is a call of `allocate`, `grow` or `shrink`, so each growth of a vector is one. Giving a block back is not a request.
 //! - Requests are numbered from 1, and from 1 again after each [`fail_nth`](FailingAllocator::fail_nth) and
 //!   [`fail_from_nth`](FailingAllocator::fail_from_nth).
-//! - Threads may share it. Each request gets a number of its own.
+//! - Threads may share it. Each request gets its own number.
 //!
-//! [`fail_in_turn`] does all of this for a call that is a [`Trial`]: it fails each of its requests, looks at what is left, and makes
-//! the call again. [`expect_requests`] also says how many requests there are, so that a test fails where one comes or goes.
+//! [`fail_in_turn`] does all of this for a call that is a [`Trial`]: it fails each of its requests, looks at what is left, and makes the
+//! call again. [`expect_requests`] also says how many requests there are, so that a test fails if one comes or goes.
 //!
-//! What is proved is that it is an allocator, whatever allocator is inside: a block that it hands out fits the request and
-//! is one that the inner allocator takes back, from any thread if the inner allocator does. Which numbers are failed is
-//! proved of the function that decides it. That requests get the numbers 1, 2, 3, .. and that both counts are right is
-//! shown by tests alone, since a clause cannot name the content of an atomic.
+//! It is proved that it is an allocator, whatever allocator is inside: a block that it hands out fits the request, and the inner allocator
+//! takes it back, from any thread if the inner allocator does. It is also proved for the function that decides it which numbers fail. Only
+//! tests show that requests get the numbers 1, 2, 3, .. and that both counts are right, because a clause cannot name the content of an
+//! atomic.
 #![tactic(auto)]
 
 ghost use Rattle.std.specs.Prelude.{◌≡◌, ◌≤◌, ◌↔◌, IsTrue};
@@ -60,7 +60,7 @@ impl<B> FailingAllocator<B> {
         }
     }
 
-    /// Fails the `n`-th request from now on, for `n` from 1, and no other. Where `n` is 0 it fails nothing.
+    /// Fails the `n`-th request from now on, for `n` from 1, and no other. If `n` is 0 it fails nothing.
     ///
     /// Both counts start again at 0. A request that another thread makes meanwhile may be counted or not.
     pub fn fail_nth(&self, n: u64) {

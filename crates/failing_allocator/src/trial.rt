@@ -1,4 +1,4 @@
-//! Calls that are tried with each of their requests for memory failed.
+//! Tries a call with each of its memory requests failing in turn.
 
 use crate::FailingAllocator;
 use std::fmt;
@@ -12,9 +12,9 @@ const MOST_REQUESTS: u64 = 10_000;
 /// What a call came to.
 #[derive(Clone, Copy, Debug, PartialEq, Eq)]
 pub enum Called {
-    /// It answered something else than want of memory.
+    /// It answered something else than lack of memory.
     Made,
-    /// It answered want of memory.
+    /// It answered lack of memory.
     Refused,
 }
 
@@ -27,7 +27,7 @@ pub trait Trial {
     /// What the call is made on, with what it answered.
     type Subject: Drop;
 
-    /// What stands before the call: the same each time. Nothing is failed meanwhile.
+    /// What is before the call: the same each time. Nothing is failed meanwhile.
     fn subject(&self) -> Result<Self::Subject, Fail>;
 
     /// Makes the call.
@@ -36,13 +36,13 @@ pub trait Trial {
     /// Whether nothing tells one from the other.
     fn are_same(&self, subject: &Self::Subject, other: &Self::Subject) -> Result<bool, Fail>;
 
-    /// Whether a failed call may leave this: what was there before it, where no more is said.
+    /// Whether a failed call may leave this: what was there before it, if no more is said.
     fn may_stand(&self, failed: &Self::Subject, before: &Self::Subject) -> Result<bool, Fail> {
         self.are_same(failed, before)
     }
 }
 
-/// What is wrong with a call whose requests were failed from number `request` on, or that one alone. It is 0 where none was.
+/// What is wrong with a call whose requests were failed from number `request` on, or that one alone. It is 0 if none was.
 #[derive(Clone, Copy, Debug, PartialEq, Eq)]
 pub struct Flaw {
     pub request: u64,
@@ -52,11 +52,11 @@ pub struct Flaw {
 /// What is wrong with a call.
 #[derive(Clone, Copy, Debug, PartialEq, Eq)]
 pub enum FlawKind {
-    /// It answers want of memory where nothing was failed.
+    /// It answers lack of memory if nothing was failed.
     WantsNothing,
     /// At a failure it leaves what may not stand then.
     LeavesOther,
-    /// Made again, or with a request failed that it can do without, it has another end than where nothing is failed.
+    /// Made again, or with a request failed that it can do without, it has another end than if nothing is failed.
     EndsElsewhere,
     /// Its requests have no end.
     Endless,
@@ -83,7 +83,7 @@ impl From<Fail> for Break {
 
 impl FlawKind {
     /// # Errors
-    /// This flaw of a call with that request failed, where it is there.
+    /// This flaw of a call with that request failed, if it is there.
     fn unless(self, holds: bool, request: u64) -> Result<(), Break> {
         if holds {
             Ok(())
@@ -108,8 +108,8 @@ impl Display for FlawKind {
 /// Tries a call with its request 1, 2, 3, .. failed, and with all from that one on, until a call meets no failure. Answers how many
 /// requests it makes, or its first flaw.
 ///
-/// Where the call failed, what it leaves has to be what may stand then. It is made again, with nothing failed, and has to end
-/// as one of which nothing was. So has a call that did without the request that failed.
+/// If the call failed, what it leaves has to be what may stand then. It is made again, with nothing failed, and has to end as one of which
+/// nothing was. So has a call that did without the request that failed.
 ///
 /// # Errors
 /// That of the trial itself.
@@ -166,7 +166,7 @@ fn count_requests<B, T: Trial>(heap: &FailingAllocator<B>, trial: &T) -> Result<
     Ok(MOST_REQUESTS)
 }
 
-/// Makes a call of which the requests from `first` to `last` are failed, and again where it wants them. Whether any was.
+/// Makes a call of which the requests from `first` to `last` are failed, and again if it wants them. Whether any was.
 fn fails<B, T: Trial>(
     heap: &FailingAllocator<B>,
     trial: &T,

@@ -1,4 +1,4 @@
-//! Conversions into registers of floating point.
+//! Conversions into floating-point registers.
 
 ghost use Rattle.std.specs.Prelude.{◌≡◌, ◌^◌, ◌<◌};
 ghost use Rattle.float_unit.specs.Values as Values;
@@ -41,7 +41,7 @@ pub fn word_to_single(kind: WordKind, mode: Rounding, x: u32) -> Rounded
     }
 }
 
-/// The same where the mode is another than to the nearest, ties to even.
+/// The same if the mode is another than to the nearest, ties to even.
 fn word_otherwise(kind: WordKind, mode: Rounding, x: u32) -> Rounded
     ensures value { result ≡ word_in mode (Values.whole kind x) }
     ensures narrow { result.bits < 2 ^ 32 }

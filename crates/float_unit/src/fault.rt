@@ -1,4 +1,4 @@
-//! Why an instruction is not carried out.
+//! Why an instruction is not executed.
 
 /// Why an instruction of floating point is not carried out. Nothing has changed then.
 #[derive(Clone, Copy, Debug, PartialEq, Eq)]

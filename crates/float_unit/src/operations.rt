@@ -61,7 +61,7 @@ pub fn accrued_flags<P: Quick>(op: ArithmeticOp, flags: Flags, a: P, b: P) -> Fl
     }
 }
 
-/// What `arithmetic` gives, where it raises no new flags, and that is found out at once.
+/// What `arithmetic` gives, if it raises no new flags, and that is found out at once.
 #[inline(always)]
 pub fn without_new_flags<P: Quick>(op: ArithmeticOp, flags: Flags, a: P, b: P) -> Option<P>
     ensures when { is_some result ≡ patterns_raise_no_new_flags op P.format flags (P.bits a) (P.bits b) }
@@ -90,7 +90,7 @@ pub fn arithmetic_in<P: Quick>(op: ArithmeticOp, mode: Rounding, a: P, b: P) -> 
     }
 }
 
-/// The same where the mode is another than to the nearest, ties to even.
+/// The same if the mode is another than to the nearest, ties to even.
 #[cold]
 #[inline(never)]
 fn arithmetic_otherwise<P: Quick>(op: ArithmeticOp, mode: Rounding, a: P, b: P) -> Rounded
@@ -141,7 +141,7 @@ pub fn fused_in<P: Quick>(op: FusedOp, mode: Rounding, a: P, b: P, c: P) -> Roun
     }
 }
 
-/// The same where the mode is another than to the nearest, ties to even.
+/// The same if the mode is another than to the nearest, ties to even.
 #[cold]
 #[inline(never)]
 fn fused_otherwise<P: Quick>(op: FusedOp, mode: Rounding, a: P, b: P, c: P) -> Rounded

@@ -1,4 +1,4 @@
-//! Comparisons, minimum and maximum of numbers, which are no NaNs. Nothing asks whether an operand is a NaN.
+//! Comparisons, minimum and maximum of numbers that are not NaNs. Nothing asks whether an operand is a NaN.
 
 ghost use Rattle.std.specs.Prelude.{◌≡◌, ◌*◌, ◌%◌, ◌<◌, ◌≤◌, if◌then◌else◌};
 ghost use Rattle.float_unit.specs.NoNewFlags as NoNewFlags;

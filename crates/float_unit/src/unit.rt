@@ -1,4 +1,4 @@
-//! The registers of floating point and fcsr.
+//! The floating-point registers and fcsr.
 
 ghost use Rattle.std.specs.Prelude.{◌≡◌, ◌*◌, ◌<◌};
 ghost use Rattle.std.specs.Prelude as Prelude;
@@ -88,7 +88,7 @@ impl FloatUnit {
         }
     }
 
-    /// The operand of a format in a register: the canonical NaN where that is a single which is not boxed.
+    /// The operand of a format in a register: the canonical NaN if that is a single which is not boxed.
     #[inline(always)]
     pub(crate) fn operand<W: Width>(&self, r: u8) -> W
         requires { IsRegister r }
@@ -159,7 +159,7 @@ impl FloatUnit {
         self.flags = self.flags | flags;
     }
 
-    /// The rounding mode that an instruction asks for, or none where it asks for that of `frm`, and there is none.
+    /// The rounding mode that an instruction asks for, or none if it asks for that of `frm`, and there is none.
     pub(crate) fn mode(&self, rm: RoundingField) -> Option<Rounding>
         ensures { result ≡ Effects.mode_of rm self.now }
     {

@@ -1,4 +1,4 @@
-//! Floats as words, toward zero, where they are in range. Nothing here asks the host to convert a float.
+//! Conversions of floats to integers, toward zero, for values in range. Nothing here asks the host to convert a float.
 
 ghost use Rattle.std.specs.Prelude.{◌≡◌, ℕ, ◌+◌, ◌*◌, ◌%◌, ◌^◌, ◌<◌, ◌≤◌, true, false, IsTrue, IfSome, is_some, ◌&&◌, ◌||◌};
 ghost use Rattle.rv_floats.specs.declared.rounding.Rounding.TheVariants.{TowardZero};
@@ -14,7 +14,7 @@ use crate::width::{Width, digits, exponent};
 use rv_float_flags::Flags;
 use rv_float_tables::WordKind;
 
-/// FCVT.W or FCVT.WU toward zero, where it raises no new flags, and the operand is in range.
+/// FCVT.W or FCVT.WU toward zero, if it raises no new flags, and the operand is in range.
 #[inline(always)]
 pub fn to_word_without_new_flags<W: Width>(kind: WordKind, flags: Flags, a: W) -> Option<u32>
     ensures when { is_some result ≡ NoNewFlags.pattern_to_word_raises_no_new_flags kind W.format flags (W.bits a) }

@@ -1,4 +1,4 @@
-//! The two formats, single and double, as instructions and registers of 64 bits have them.
+//! The two formats, single and double, in instructions and in registers of 64 bits.
 
 ghost use Rattle.std.specs.Prelude.{◌≡◌, ◌*◌, ◌+◌, false, IsTrue};
 ghost use Rattle.rv_floats.specs.Conversions.{in_register, of_register};

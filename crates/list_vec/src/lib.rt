@@ -1,8 +1,8 @@
 //! A `Vec` that contracts see as the list of its elements.
 //!
-//! A `Vec` has a capacity and an allocator beside its elements, so two vectors of the same elements are two values in
-//! a contract. A [`ListVec`] is seen as the list alone: a struct with such a field is compared by its elements.
-//! It is made from a `Vec` and gives it back without taking memory.
+//! A `Vec` also has a capacity and an allocator, so two vectors with the same elements are different values in a contract. A [`ListVec`] is
+//! seen as the list alone: a struct with such a field is compared by its elements. It is made from a `Vec`, and gives it back, without
+//! taking memory.
 #![tactic(auto)]
 
 ghost use Rattle.std.specs.Prelude.{◌≡◌, ◌==◌, length};

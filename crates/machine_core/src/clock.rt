@@ -33,7 +33,7 @@ pub(crate) fn closed_with<A: Allocator>(
     }
 }
 
-/// What the first clock of a row counts on from, or 0 where there is none.
+/// What the first clock of a row counts on from, or 0 if there is none.
 fn closed_before<A: Allocator>(nodes: &[Node<A>]) -> u128
     ensures { result ≡ first_closed (states nodes.now) }
 {

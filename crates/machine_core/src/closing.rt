@@ -1,4 +1,4 @@
-//! How a superstep ends for its nodes, none of which runs.
+//! How a superstep ends for its nodes, after all of them have stopped.
 
 ghost use Rattle.std.specs.Prelude.{false, ◌≡◌, ◌++◌, None, Some, find, option_copied, IfOk, OnOk, IfSome, IsNone, IsTrue, OnErr};
 ghost use Rattle.node_core.specs.Node.{PreparedNode};
@@ -28,7 +28,7 @@ pub(crate) enum Closing<A: Allocator> {
 /// parts.
 ///
 /// # Errors
-/// Where memory is refused. Rows and output are then as they were.
+/// If memory is refused. Rows and output are then as they were.
 pub(crate) fn begin<A: Allocator + Copy>(
     alloc: A,
     output: &mut Vec<u8, A>,
@@ -58,7 +58,7 @@ pub(crate) fn begin<A: Allocator + Copy>(
 /// Finds the outcome of nodes none of which runs, or drafts their exchange.
 ///
 /// # Errors
-/// Where memory is refused.
+/// If memory is refused.
 fn close<A: Allocator + Copy>(alloc: A, nodes: &[Node<A>]) -> Result<Closing<A>, AllocError>
     requires { lowest was_stopped_of (states nodes.now) ≡ None
         → lowest has_ended_of (states nodes.now) ≡ None → AreAtSync (states nodes.now) }

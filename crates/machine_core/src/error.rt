@@ -1,4 +1,4 @@
-//! Why no machine is made.
+//! Why a machine cannot be made.
 
 use std::alloc::AllocError;
 

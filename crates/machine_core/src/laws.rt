@@ -20,9 +20,9 @@ ghost use Rattle.machine_core.specs.Events.{event, after, some_runs, is_step_of,
 ghost use Rattle.machine_core.specs.Walk.{walked, IsOnPhase};
 ghost use Rattle.machine_core.specs.Sound.{AreInRange, IsSoundMachine};
 
-/// A machine whose settings are in range is sound at its start, and events, turns and supersteps keep it so: each node at the place
-/// of its rank, and sound itself; equally many areas in effect at each; ticks that fit the exchanges; an outcome only where no node runs;
-/// a row of costs for each superstep that is over.
+/// A machine whose settings are in range is sound at its start, and events, turns and supersteps keep it so: each node at the place of its
+/// rank, and sound itself; equally many areas in effect at each; ticks that fit the exchanges; an outcome only if no node runs; a row of
+/// costs for each superstep that is over.
 pub fn a_machine_stays_sound()
     ensures start { (image : Image) (input : List ℕ) (settings : Settings)
         → AreInRange settings → IsSoundMachine (fresh image input settings) }
@@ -35,10 +35,10 @@ pub fn a_machine_stays_sound()
     ensures last { (m : MachineState) → IsSoundMachine m → IsSoundMachine (end_of m) }
 {}
 
-/// Between turns each node goes its own way: after events that make no turn, the node of a rank is as it would be after as many
-/// local steps by itself as there are steps of its rank among them (a node that does not run stays as it is), whatever the other
-/// events were and however they were ordered. All else is as it was. And where each node has made some steps of its own, some
-/// events without a turn lead there.
+/// Between turns each node goes its own way: after events that make no turn, the node of a rank is as it would be after as many local steps
+/// by itself as there are steps of its rank among them (a node that does not run stays as it is), whatever the other events were and
+/// however they were ordered. All else is as it was. And if each node has made some steps of its own, some events without a turn lead
+/// there.
 pub fn nodes_do_not_meet_between_turns()
     ensures steps { (m : MachineState) (events : List Event) (rank : ℕ) → MakeNoTurn m events
         → slice_get (after m events).nodes rank
@@ -50,9 +50,8 @@ pub fn nodes_do_not_meet_between_turns()
         → (events : List Event) × MakeNoTurn m events × (after m events ≡ record m { nodes = nodes }) }
 {}
 
-/// The local parts of a superstep come to an end: no node runs afterwards, and a sound machine is still sound. Where some of their
-/// steps were made before, whichever and in whatever order, they end as they would have: local parts that were broken off can be
-/// taken up again.
+/// The local parts of a superstep come to an end: no node runs afterwards, and a sound machine is still sound. If some of their steps were
+/// made before, whichever and in whatever order, they end as they would have: local parts that were broken off can be taken up again.
 pub fn local_parts_can_be_taken_up_again()
     ensures sound { (m : MachineState) → IsSoundMachine m → IsSoundMachine (with_phases m) }
     ensures stopped { (m : MachineState) → IsSoundMachine m → some_runs (with_phases m).nodes ≡ false }
@@ -72,8 +71,8 @@ pub fn steps_of_two_nodes_commute()
         → event (event m (Event.Step r)) (Event.Step s) ≡ event (event m (Event.Step s)) (Event.Step r) }
 {}
 
-/// Order does not matter: whatever events were made, and in whatever order, a sound machine has the end that it had before. Where
-/// it has its outcome, it is at that end.
+/// Order does not matter: whatever events were made, and in whatever order, a sound machine has the end that it had before. If it has its
+/// outcome, it is at that end.
 pub fn every_order_has_the_same_end()
     ensures same { (m : MachineState) (events : List Event)
         → IsSoundMachine m → end_of (after m events) ≡ end_of m }
@@ -81,9 +80,9 @@ pub fn every_order_has_the_same_end()
         → IsSoundMachine m → IsSome (after m events).outcome → after m events ≡ end_of m }
 {}
 
-/// A run that was broken off can be taken up again. After some events of its walk a machine is one that events lead to, and has the
-/// end that it had before; where none of them was a turn, its nodes' local parts end as they would have ended. After the outcome
-/// there are no events left.
+/// A run that was broken off can be taken up again. After some events of its walk a machine is one that events lead to, and has the end
+/// that it had before; if none of them was a turn, its nodes' local parts end as they would have ended. After the outcome there are no
+/// events left.
 pub fn a_refused_run_resumes()
     ensures reached { (m : MachineState) (k : ℕ)
         → (events : List Event) × (walked k m ≡ after m events) }
@@ -161,8 +160,8 @@ pub fn a_turn_that_is_not_large_costs_less()
         → ((cost_row m).h_all ≤ 2 ^ 34) × ((cost_row m).messages ≤ 2 ^ 26) }
 {}
 
-/// Nodes none of which runs, was stopped or ended are at sync, so that the exchange can be asked for: they stand at the places of
-/// their ranks, all of them wait, and they have equally many areas in effect.
+/// Nodes none of which runs, was stopped or ended are at sync, so that the exchange can be asked for: they are at the places of their
+/// ranks, all of them wait, and they have equally many areas in effect.
 pub fn waiting_nodes_are_at_sync()
     ensures { (m : MachineState)
         → IsSoundMachine m → some_runs m.nodes ≡ false

@@ -1,4 +1,4 @@
-//! The machine itself: its events, its runs, and what can be read of it.
+//! The machine itself: its events, its runs, and its readers.
 
 ghost use Rattle.std.specs.Prelude.{◌≡◌, ◌<◌, ℕ, None, IfOk, OnOk, OnErr, IsSome, IsSomeAnd, length, map, slice_get, option_copied};
 ghost use Rattle.std.specs.Prelude.{option_map, true};
@@ -107,7 +107,7 @@ impl<A: Allocator + Copy> Machine<A> {
     /// it.
     ///
     /// # Errors
-    /// Where memory is refused.
+    /// If memory is refused.
     pub fn try_clone(&self) -> Result<Machine<A>, AllocError>
         ensures { IfOk result (λ m. m ≡ self.now) }
     {
@@ -128,9 +128,8 @@ impl<A: Allocator + Copy> Machine<A> {
     /// rank that is absent or does not run, and a turn while a node runs or after the outcome.
     ///
     /// # Errors
-    /// Where memory is refused, which can be at an enabled event alone, and at a step only where the node's own step can be
-    /// refused: at a store, and at a call that stores, registers, asks or writes. Nothing has changed then, and the event can be made
-    /// again.
+    /// If memory is refused, which can be at an enabled event alone, and at a step only if the node's own step can be refused: at a store,
+    /// and at a call that stores, registers, asks or writes. Nothing has changed then, and the event can be made again.
     pub fn apply(&mut self, event: Event) -> Result<bool, AllocError>
         ensures { IsAnswered event self.old self.new result }
     {
@@ -157,8 +156,8 @@ impl<A: Allocator + Copy> Machine<A> {
     /// Runs each running node in rank order until it stops. After the outcome nothing is left to run.
     ///
     /// # Errors
-    /// Where memory is refused in a step, after which no node runs of a lower rank than that step's. The steps before it are
-    /// made, and a call made again leaves what this one would have left.
+    /// If memory is refused in a step, after which no node runs of a lower rank than that step's. The steps before it are made, and a call
+    /// made again leaves what this one would have left.
     pub fn run_phase_plain(&mut self) -> Result<(), AllocError>
         ensures ok { OnOk result (self.new ≡ with_phases self.old) }
         ensures err { OnErr result (IsOnPhase self.old self.new) }
@@ -176,7 +175,7 @@ impl<A: Allocator + Copy> Machine<A> {
     /// Makes at most `most` steps of the node of a rank, while it runs. Of a rank that is absent there are none.
     ///
     /// # Errors
-    /// Where memory is refused in a step. The steps before it are made, fewer than `most`, and the node still runs.
+    /// If memory is refused in a step. The steps before it are made, fewer than `most`, and the node still runs.
     pub fn run_node(&mut self, rank: u32, most: u64) -> Result<(), AllocError>
         ensures { AreStepsMade rank most self.old self.new result }
     {
@@ -198,8 +197,8 @@ impl<A: Allocator + Copy> Machine<A> {
     /// Runs the machine to its outcome, superstep by superstep. After the outcome nothing is left to run.
     ///
     /// # Errors
-    /// Where memory is refused in a step or a turn. What was made before it stands, and a call made again leaves what this one
-    /// would have left.
+    /// If memory is refused in a step or a turn. What was made before it stands, and a call made again leaves what this one would have
+    /// left.
     pub fn run_plain(&mut self) -> Result<(), AllocError>
         ensures ok { OnOk result (IsRunToEnd self.old self.new) }
         ensures err { OnErr result ((k : ℕ) × (self.new ≡ walked k self.old)) }

@@ -22,7 +22,7 @@ pub(crate) fn some_runs<A: Allocator>(nodes: &[Node<A>]) -> bool
 /// Makes a step of the node of a rank, if it runs, and answers whether it did.
 ///
 /// # Errors
-/// Where memory is refused. Nothing has changed then.
+/// If memory is refused. Nothing has changed then.
 pub(crate) fn step_at<A: Allocator + Copy>(
     nodes: &mut [Node<A>],
     rank: usize,
@@ -45,7 +45,7 @@ pub(crate) fn step_at<A: Allocator + Copy>(
 /// The same nodes.
 ///
 /// # Errors
-/// Where memory is refused.
+/// If memory is refused.
 pub(crate) fn try_clone<A: Allocator + Copy>(
     alloc: A,
     nodes: &[Node<A>],
@@ -62,7 +62,7 @@ pub(crate) fn try_clone<A: Allocator + Copy>(
 /// Makes at most `most` steps of the node of a rank, as long as it runs.
 ///
 /// # Errors
-/// Where memory is refused in a step. The steps before it are made.
+/// If memory is refused in a step. The steps before it are made.
 pub(crate) fn run_at<A: Allocator + Copy>(
     nodes: &mut [Node<A>],
     rank: usize,
@@ -78,7 +78,7 @@ pub(crate) fn run_at<A: Allocator + Copy>(
 /// Makes at most as many steps of the node of a rank as `pcs` has places, as long as it runs, with their addresses. How many.
 ///
 /// # Errors
-/// Where memory is refused in a step. The steps before it are made.
+/// If memory is refused in a step. The steps before it are made.
 pub(crate) fn run_traced_at<A: Allocator + Copy>(
     nodes: &mut [Node<A>],
     rank: usize,
@@ -107,7 +107,7 @@ pub(crate) fn work<A: Allocator>(nodes: &[Node<A>], started: &[u64]) -> u64
 /// Appends what the nodes wrote in this superstep to `output`, rank by rank.
 ///
 /// # Errors
-/// Where memory is refused. `output` has then the bytes that it had.
+/// If memory is refused. `output` has then the bytes that it had.
 pub(crate) fn append_output<A: Allocator>(
     nodes: &[Node<A>],
     output: &mut Vec<u8, A>,

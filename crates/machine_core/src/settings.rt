@@ -1,4 +1,4 @@
-//! What a machine is made of.
+//! The settings of a machine.
 
 ghost use Rattle.std.specs.Prelude.{◌≡◌, ◌&&◌, nat_le};
 ghost use Rattle.node_memory.specs.Bytes.{is_memory_size};

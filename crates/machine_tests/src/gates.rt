@@ -1,4 +1,4 @@
-//! A gate that lets nodes leave in a given order alone, which a pool that runs one node after another does not.
+//! A gate that releases nodes only in a given order, which a pool that runs one node after another cannot follow.
 
 use crate::program::machine;
 use machine_core::{Machine, Outcome, Settings};

@@ -1,5 +1,5 @@
-//! Tests of the crates above `node_core`: of what no contract says of exchanges, pools and sessions, and no run of the program shows. They
-//! stand outside of the crates that they test, as users of what these export, since a crate that has tests is proved twice.
+//! Tests for the crates above `node_core`: what neither a contract nor a run of the program can show about exchanges, pools and sessions.
+//! They are outside of the crates that they test, as users of their exports, because a crate with tests is proved twice.
 #![tactic(auto)]
 
 #[cfg(test)]

@@ -1,4 +1,4 @@
-//! Machines that are refused each of their requests for memory: where they are copied, in a turn that makes the exchange, and in a run of
+//! Machines that are refused each of their requests for memory: when they are copied, in a turn that makes the exchange, and in a run of
 //! two workers.
 
 use crate::program::{ABORTS, Heap, NODES, SETTINGS, TEXT, machine};

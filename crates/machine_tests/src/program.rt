@@ -1,4 +1,4 @@
-//! A program that asks for all that takes memory, and a machine that runs it.
+//! A program that makes every call that takes memory, and a machine that runs it.
 
 use failing_allocator::FailingAllocator;
 use machine_core::{Machine, Settings};
@@ -11,7 +11,7 @@ pub type Heap = FailingAllocator<Global>;
 
 /// Each rank stores a word and makes the calls of the table, six words each, and writes the digit of its rank between two exchanges. What
 /// is stored, answered or lands comes into pages that are shared until then, over the edges of two of them, and in part over what lands
-/// too. Behind the calls stands a statement of each further kind.
+/// too. After the calls stands a statement of each further kind.
 pub const TEXT: &str = "\
         li   a7, 3          # pid()
         ecall

@@ -1,4 +1,4 @@
-//! Readers that fail in the middle of what they give.
+//! Readers that fail in the middle of their input.
 
 use crate::program::{INPUT, LANGUAGE};
 use crate::sessions::{Done, Kind, Readers, make};

@@ -1,4 +1,4 @@
-//! The sessions, each of which is refused each of its requests for memory.
+//! The sessions, with each of their requests for memory refused in turn.
 
 use crate::program::{Heap, INPUT, LANGUAGE, SETTINGS, TEXT};
 use bsp_console::{debug_dialogue, debug_framed, debug_session};
@@ -302,7 +302,7 @@ request 7 send to rank 1 bytes 30 tag bytes 4
 00000000: 00300893  addi x17,x0,3
 00000004: 00000073  ecall
 00000008: 03050513  addi x10,x10,48
-refused: BadCommand: there is no such line; help tells the lines
+refused: BadCommand: there is no such line; help lists the lines
 refused: BadCommand: the line is over RANK
 ended
 ";

@@ -10,31 +10,30 @@
 //!
 //! What callers may rely on:
 //!
-//! - Each step of a running node is one tick, also where it ends in a fault. It executes the instruction at pc, or else
-//!   it ends in the first fault of this order: `Misaligned` where pc is odd, `FetchOutside` where the two bytes at
-//!   pc do not lie in the memory, or the four where the low bits of these two are 11, `IllegalInstruction` where no instruction
-//!   has that code, or one of floating point and the node has no unit, or one of A and the node has none of these, and then the
-//!   instruction's own. Then pc is past the instruction's 2 or 4 bytes, or where a jump goes.
+//! - Each step of a running node is one tick, even if it ends in a fault. It executes the instruction at pc, or ends in the first fault of
+//!   this order: `Misaligned` if pc is odd; `FetchOutside` if the two bytes at pc do not lie in the memory, or the four if the low bits of
+//!   these two are 11; `IllegalInstruction` if no instruction has that code, or one of floating point and the node has no unit, or one of A
+//!   and the node does not have A; and then the instruction's own. Then pc is past the instruction's 2 or 4 bytes, or at a jump's target.
 //! - [`Node::set_unit`] gives a node a unit of floating point. What its instructions do to it is what `float_unit` says; loads and stores
 //!   of its registers are as others. Nothing else changes it, and no step gives a node a unit or takes it away.
-//! - [`Node::set_atomics`] gives a node the instructions of A. LR reserves a word, SC stores where its word is reserved, and each SC and
-//!   each environment call on which the node goes on invalidates the reservation. Their addresses are aligned, else they are `Misaligned`.
+//! - [`Node::set_atomics`] gives a node the instructions of A. LR reserves a word, and SC stores if its word is reserved. Each SC, and each
+//!   environment call after which the node continues, invalidates the reservation. Their addresses are aligned, else they are `Misaligned`.
 //! - A fault leaves the hart as it was, pc too: only state and ticks differ. No jump is a fault. Loads and stores work at any
 //!   address, with the least significant byte first.
 //! - A node that has made its last tick and still runs is [`Exhausted`](State::Exhausted); one that stops by that very
 //!   step keeps the state in which it stopped.
 //! - `step` and `run` answer `Ok` for a node that does not run, and change nothing.
-//! - [`Node::run_traced`] is `run` that tells at which addresses the steps were made. After a refusal its addresses say nothing.
+//! - [`Node::run_traced`] is `run`, and also reports the addresses at which the steps were made. After a refusal its addresses say nothing.
 //! - Memory is refused at stores and at the calls marked (m) alone, after all their checks. The step that needed it has then
 //!   changed nothing of the record, ticks included, and can be made again; a run keeps the steps that it made before.
-//! - A store takes memory where a page of its range is shared, for a copy of it. A page that is private stays so, and
-//!   a store over the edge of two pages owns both before it changes a byte.
+//! - If a page of its range is shared, a store takes memory for a copy of it. A page that is private stays so, and a store over the edge of
+//!   two pages owns both before it changes a byte.
 //! - Code is decoded once: the pages that the image's bytes reach, when its first node is made, for that node and all that share with
 //!   it. A node steps over what was decoded for as long as a page is not private, and this shows in no contract: whoever writes into
 //!   code runs what it wrote, at once.
 //! - [`Node::try_clone`] gives the same node once more, and [`Node::share`] that of another rank. The memories share their pages, and
 //!   what one of the nodes does shows in none of the others.
-//! - Room for the turn of the registrations, once made, stands until a step pushes or pops.
+//! - Room for the turn of the registrations, once made, stays until a step pushes or pops.
 //! - At the end of a superstep [`Node::prepare_turn`] makes that room, and [`Node::prepare_land`] makes the pages of a range
 //!   private; both may be refused. Then [`Node::land`] writes what an exchange brings, and [`Node::finish_turn`] begins
 //!   the next superstep, which cannot be. Each changes just what it names.
@@ -59,12 +58,12 @@
 //! | 11 | `set_tagsize(addr)` (m) | range of 4, size | the word at addr is the next tag size; the size in effect takes its place |
 //! | 12 | `send(pid, tag, payload, n)` (m) | rank, range of the tag, range of the payload, room | copies both into a message |
 //! | 13 | `qsize(packets, bytes)` (m) | range of 4, range of 4 | stores the number of messages, then the sum of their payloads' lengths |
-//! | 14 | `get_tag(status, tag)` (m) | range of 4; with a message, range of its tag | stores the first payload's length, then the tag; 2^32 - 1 where there is none |
+//! | 14 | `get_tag(status, tag)` (m) | range of 4; with a message, range of its tag | stores the first payload's length, then the tag; 2^32 - 1 if there is none |
 //! | 15 | `move(addr, n)` (m) | with a message, range of k | copies the payload's first k bytes and removes the message |
 //! | 16 | `abort(addr, n)` (m) | range, room | the n bytes at addr go to the end of the output; the node is `Aborted` |
 //! | 17 | `write(addr, n)` (m) | range, room | the n bytes at addr go to the end of the output |
 //! | 18 | `read(addr, n)` (m) | range of k | the next k bytes of the input go to addr; a0 is k |
-//! | 19 | the clock's, where the node has one | | a0 is the low word of what the clock shows, a1 the high one |
+//! | 19 | the clock's, if the node has one | | a0 is the low word of what the clock shows, a1 the high one |
 //!
 //! - range: the bytes lie in the memory, else `RangeOutside`. A range of no bytes may begin at its end.
 //! - rank: there is a node of that rank, else `BadRank`.
@@ -73,11 +72,10 @@
 //! - room: the limits of the superstep are kept, else `TooMuch`: those of [`bsp_slots`] for a push, those of
 //!   [`bsp_requests`] for requests and output.
 //! - size: at most 4,096, else `BadSize`. A tag has the size in effect, which a superstep keeps.
-//! - k is n, or what is left where that is less: of the first payload, or of the input, which has 0 bytes left where the
-//!   cursor is past its end.
+//! - k is n, or what is left if that is less: of the first payload, or of the input, which has 0 bytes left if the cursor is past its end.
 //!
-//! Any other number is `UnknownCall`, and so is 19 on a node without a clock. Where two stores of one call overlap, the later named lands
-//! over the earlier.
+//! Any other number is `UnknownCall`, and so is 19 on a node without a clock. If two stores of one call overlap, the one that is named
+//! later lands over the other.
 //!
 //! Sources: The RISC-V Instruction Set Manual, Volume I: Unprivileged ISA, 20191213, chapters 2, 3, 7, 8, 9, 11, 12 and 16, for
 //! the instructions; BSPlib (Hill and others, 1998) for the calls but `write` and `read`; `abort` stops its own node alone, and

@@ -1,4 +1,4 @@
-//! Images: what a loader or an assembler makes, and a memory starts from.
+//! Images, which a loader or an assembler makes and from which a memory starts.
 
 ghost use Rattle.std.specs.Prelude.{◌≡◌};
 
@@ -37,7 +37,7 @@ impl<A: Allocator> Segment<A> {
     }
 }
 
-/// A program: where it starts, and its segments. Where two segments cover an address, the later one counts.
+/// A program: where it starts, and its segments. If two segments cover an address, the later one counts.
 ///
 /// It has at most 65,534 segments, with at most 2^28 bytes in all.
 #[derive(Drop)]

@@ -62,7 +62,7 @@ impl<A: Allocator> Page<A> {
         }
     }
 
-    /// A page of the same bytes that others may share: this one where it is shared, else a copy.
+    /// A page of the same bytes that others may share: this one if it is shared, else a copy.
     pub(crate) fn share(&self, alloc: A) -> Result<Page<A>, AllocError>
         ensures bytes { IfOk result (λ p. page_bytes p ≡ page_bytes self.now) }
         ensures shared { IfOk result (λ p. is_private p ≡ false) }

@@ -1,5 +1,5 @@
-//! Tests of `failing_allocator`, `counted_io` and `exposed_bytes`: of what no contract says and no run of the program shows. They stand
-//! outside of the crates that they test, as users of what these export, since a crate that has tests is proved twice.
+//! Tests for `failing_allocator`, `counted_io` and `exposed_bytes`: what neither a contract nor a run of the program can show. They are
+//! outside of the crates that they test, as users of their exports, because a crate with tests is proved twice.
 #![tactic(auto)]
 
 #[cfg(test)]

@@ -1,7 +1,7 @@
 //! Numbers as users write them: decimal digits, or `0x` and hexadecimal digits of either case, of any number and without a sign.
 //!
-//! The model of a word is its bytes, and that of a number is the natural number. Callers may rely on this: a word is a number or none,
-//! whatever its size ([`is_number`]), and its value is answered just where the type has room for it ([`u32_of`], [`u64_of`]).
+//! The model of a word is its bytes, and that of a number is the natural number. Callers may rely on this: a word is a number or not,
+//! whatever its size ([`is_number`]), and its value is answered exactly if the type has room for it ([`u32_of`], [`u64_of`]).
 #![tactic(auto)]
 
 ghost use Rattle.std.specs.Prelude.{◌≡◌, ◌<◌, ◌+◌, ◌*◌, ◌^◌, is_some};
@@ -43,7 +43,7 @@ pub fn u64_of(word: &[u8]) -> Option<u64>
     }
 }
 
-/// The value of a word that is digits, one at least, and nothing else, where it is below 2^64.
+/// The value of a word that is digits, one at least, and nothing else, if it is below 2^64.
 fn numeral_value(radix: u64, word: &[u8]) -> Option<u64>
     requires { 0 < radix }
     ensures { result ≡ option_and_then (below (2 ^ 64)) (numeral_value radix word.now) }
@@ -69,7 +69,7 @@ fn are_digits(radix: u64, word: &[u8]) -> bool
     word.iter().all(|byte| is_digit(*byte, radix))
 }
 
-/// The value of digits, where it is below 2^64.
+/// The value of digits, if it is below 2^64.
 fn digits_value(radix: u64, digits: &[u8]) -> Option<u64>
     requires { 0 < radix }
     ensures { result ≡ below (2 ^ 64) (digits_value radix digits.now) }
@@ -81,7 +81,7 @@ fn digits_value(radix: u64, digits: &[u8]) -> Option<u64>
     Some(value)
 }
 
-/// A number with one digit more behind it, where it is below 2^64.
+/// A number with one digit more after it, if it is below 2^64.
 fn with_digit(value: u64, radix: u64, digit: u64) -> Option<u64>
     ensures { result ≡ below (2 ^ 64) (value * radix + digit) }
 {

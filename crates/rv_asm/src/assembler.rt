@@ -14,7 +14,7 @@ use node_memory::{Image, Segment};
 use rv_atomics::Extensions;
 use std::alloc::{AllocError, Allocator};
 
-/// A program as an image: one segment at 0 with all its bytes, and none where there are none.
+/// A program as an image: one segment at 0 with all its bytes, and none if there are none.
 fn image_of<A: Allocator + Copy>(alloc: A, program: Program<A>) -> Result<Image<A>, AllocError>
     requires { vec_len program.bytes ≤ 2 ^ 24 }
     ensures entry { IfOk result (λ image. image.entry ≡ program.entry) }

@@ -1,4 +1,4 @@
-//! What is wrong with a text.
+//! The faults of a text.
 
 ghost use Rattle.std.specs.Prelude.{◌≡◌};
 ghost use Rattle.rv_asm.specs.ErrorTexts.{kind_name};
@@ -31,8 +31,7 @@ pub enum AsmKind {
     NoMemory,
 }
 
-/// The first fault of a text: the number of its line, counted from 1, and what is wrong with it. Where memory was refused
-/// the line is 0.
+/// The first fault of a text: the number of its line, counted from 1, and what is wrong with it. If memory was refused the line is 0.
 #[derive(Clone, Copy, Debug, PartialEq, Eq)]
 pub struct AsmError {
     pub line: u32,
@@ -87,7 +86,7 @@ impl<T: Drop> From<AllocFailed<T>> for AsmKind {
 }
 
 impl AsmError {
-    /// What is wrong with the line of this number; want of memory is no line's.
+    /// What is wrong with the line of this number; lack of memory is no line's.
     pub(crate) fn at(number: u32, kind: AsmKind) -> AsmError
         ensures { IsErrorAt number kind result }
     {

@@ -1,4 +1,4 @@
-//! The first judging: what can be known of each line without the addresses of labels, and those addresses.
+//! The first pass: checks each line without the addresses of labels, and finds these addresses.
 
 ghost use Rattle.std.specs.Prelude.{◌≡◌, ◌≢◌, ◌^◌, ◌≤◌, List, ℕ, length, Option, None, Some};
 ghost use Rattle.std.specs.Prelude.{is_some, option_map, false, Ok, OnOk, IfOk, IfErr, IfSome};
@@ -36,7 +36,7 @@ fn misses_number<A: Allocator + Copy>(
     }
 }
 
-/// Where a line's statement at `address` ends, or none where that is past the limit.
+/// Where a line's statement at `address` ends, or none if that is past the limit.
 fn line_end<A: Allocator>(statement: &Option<Statement<'_, A>>, address: u32) -> Option<u32>
     requires at { address ≤ 2 ^ 24 }
     requires in_range { IfSome statement.now (λ s. IsInRange (statement_value s)) }

@@ -1,4 +1,4 @@
-//! Facts about texts, their faults and their images. There is nothing to run: a caller calls one for what it ensures.
+//! Laws of texts, their faults and their images. There is nothing to run: a caller calls one for what it ensures.
 
 ghost use Rattle.std.specs.Prelude.{◌≡◌, ◌≢◌, List, ℕ, None, Some};
 ghost use Rattle.node_memory.specs.Image.{Image};
@@ -22,7 +22,7 @@ pub fn a_text_without_a_fault_has_an_image()
         → text_fault extensions text ≡ None → (image : Image) × IsImageOfText extensions text image }
 {}
 
-/// Want of memory is no fault of a text.
+/// Lack of memory is not a fault of a text.
 pub fn want_of_memory_is_no_fault()
     ensures { (extensions : Extensions) (text : List ℕ) (line : ℕ) → text_fault extensions text ≢ Some (line, NoMemory) }
 {}

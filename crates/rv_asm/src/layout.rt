@@ -38,7 +38,7 @@ fn load_size(word: u32) -> u64
     if is_short(word) { 4 } else { 8 }
 }
 
-/// How many bytes a statement at `address` has, or all that 64 bits can count where that is less.
+/// How many bytes a statement at `address` has, or all that 64 bits can count if that is less.
 fn size_of<A: Allocator>(statement: &Statement<'_, A>, address: u32) -> u64
     requires { IsInRange (statement_value statement.now) }
     ensures { result ≡ min (Layout.size_of (statement_value statement.now) address) (2 ^ 64 - 1) }
@@ -61,7 +61,7 @@ fn size_of<A: Allocator>(statement: &Statement<'_, A>, address: u32) -> u64
     }
 }
 
-/// Where a statement at `address` ends, or none where that is past the limit.
+/// Where a statement at `address` ends, or none if that is past the limit.
 pub fn end_of<A: Allocator>(statement: &Statement<'_, A>, address: u32) -> Option<u32>
     requires at { address ≤ 2 ^ 24 }
     requires in_range { IsInRange (statement_value statement.now) }

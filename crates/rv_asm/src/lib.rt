@@ -1,14 +1,13 @@
 //! An assembler: the image of a text.
 //!
-//! A text is a list of lines. Each line is at the address where the statement before it ends, a label stands for the
-//! address of its line, and the image is the bytes of the statements one after the other, in one segment at 0.
+//! A text is a list of lines. Each line is at the address where the statement before it ends, a label is the address of its line, and the
+//! image is the bytes of the statements one after the other, in one segment at 0.
 //!
 //! What callers may rely on:
 //!
-//! - [`assemble`] answers the image of a text, or the text's fault: its first faulty line, with the least kind of fault
-//!   that the line has. Lines are judged first by what is known of them without the addresses of labels, and only where no
-//!   line has a fault then, by their uses of labels.
-//! - [`laws`] has what holds of all texts: one image at most, and one where there is no fault.
+//! - [`assemble`] answers the image of a text, or the text's fault: its first faulty line, with the least kind of fault that the line has.
+//!   Lines are first checked without the addresses of labels. Only if no line has a fault then, their uses of labels are checked.
+//! - [`laws`] has what holds of all texts: at most one image, and exactly one if there is no fault.
 //!
 //! What a line says by itself is the matter of `asm_syntax`, the words of instructions that of `rv_tables`. Here are
 //! addresses, sizes, labels and offsets. No statement's size depends on a label, so one pass over the text finds the

@@ -1,4 +1,4 @@
-//! What a program is made of while its text is gone through.
+//! The program so far, while its text is assembled.
 
 ghost use Rattle.std.specs.Prelude.{◌≡◌, ◌≢◌, ◌⊎◌, ◌+◌, ◌^◌, ◌≤◌, OnOk, IfErr, Some, None, unwrap_or, option_and_then, IfSome, vec_len};
 ghost use Rattle.asm_syntax.specs.Statements.{IsInRange};
@@ -26,7 +26,7 @@ pub struct Program<A: Allocator> {
 }
 
 impl<A: Allocator + Copy> Program<A> {
-    /// Writes a statement behind the bytes so far.
+    /// Writes a statement after the bytes so far.
     pub fn push(
         &mut self,
         labels: &Labels<'_, A>,
@@ -84,7 +84,7 @@ impl<A: Allocator + Copy> Program<A> {
         }
     }
 
-    /// Writes what a line says behind the bytes so far.
+    /// Writes what a line says after the bytes so far.
     pub fn push_line(&mut self, labels: &Labels<'_, A>, line: &Line<'_, A>) -> Result<(), AsmKind>
         requires in_range { IfSome line.now.statement (λ s. IsInRange (statement_value s)) }
         requires room { end_of_statement (vec_len self.old.bytes) (line_value line.now).statement ≤ 2 ^ 24 }

@@ -1,4 +1,4 @@
-//! The second judging, of uses of labels, and the bytes of the lines.
+//! The second pass: checks the uses of labels, and writes the bytes of the lines.
 
 ghost use Rattle.std.specs.Prelude.{◌≡◌, ◌≢◌, ◌^◌, ◌≤◌, List, ℕ, length, None, Some, unwrap_or};
 ghost use Rattle.std.specs.Prelude.{vec_len, option_and_then, IsOkAnd, OnOk, IfOk, IfErr};
@@ -17,7 +17,7 @@ use asm_syntax::{parse_line, split_line};
 use rv_atomics::Extensions;
 use std::alloc::Allocator;
 
-/// Writes a line that has no fault by itself behind the program so far.
+/// Writes a line that has no fault by itself after the program so far.
 fn write_line<A: Allocator + Copy>(
     alloc: A,
     extensions: Extensions,

@@ -1,4 +1,4 @@
-//! The values of targets, and how far jumps go to them.
+//! The values of targets, and the offsets of jumps to them.
 
 ghost use Rattle.std.specs.Prelude.{◌≡◌, ◌↔◌, ◌^◌, IsTrue};
 ghost use Rattle.rv_tables.specs.Operands.{IsBranchOffset, IsJumpOffset};
@@ -19,7 +19,7 @@ pub fn word_of(n: i64) -> u32
     n.rem_euclid(1 << 32) as u32
 }
 
-/// The word that a target stands for; none where its label is not known.
+/// The word that a target stands for; none if its label is not known.
 pub fn value_of<A: Allocator + Copy>(labels: &Labels<'_, A>, target: &Target<'_>) -> Option<u32>
     requires { IsTarget (target_value target.now) }
     ensures { result ≡ Targets.value_of (symbols labels.now) (target_value target.now) }

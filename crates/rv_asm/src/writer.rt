@@ -26,7 +26,7 @@ use rv_float_tables::FloatInstr;
 use rv_tables::{BranchOp, IOp, Instr, UpperOp, encode};
 use std::alloc::Allocator;
 
-/// Writes the word of an instruction behind `bytes`.
+/// Writes the word of an instruction after `bytes`.
 pub fn push_instr<A: Allocator>(bytes: &mut Vec<u8, A>, instr: &Instr) -> Result<(), AsmKind>
     ensures ok { OnOk result (Adds (Spell (instr.now ∷ [])) bytes.old.items bytes.new.items) }
     ensures encodable { OnOk result (IsEncodable instr.now) }

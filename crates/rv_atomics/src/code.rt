@@ -1,4 +1,4 @@
-//! The instruction of a code, which may have two or four bytes.
+//! Decodes a code of two or four bytes.
 
 ghost use Rattle.rv_tables.specs.Operands.{IsFound};
 ghost use Rattle.rv_atomics.specs.Codes.{atomic_decoded};

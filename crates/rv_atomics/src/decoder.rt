@@ -1,4 +1,4 @@
-//! The instruction of a word.
+//! Decodes a word of A.
 
 ghost use Rattle.std.specs.Prelude.{◌≡◌, bit_and};
 ghost use Rattle.rv_tables.specs.Operands.{IsFound};
@@ -8,7 +8,7 @@ ghost use Rattle.rv_atomics.specs.Rows.{atomic_instruction_of, amo_of};
 use crate::fields::{funct5, order, rd, rs1, rs2};
 use crate::instr::{AmoOp, AtomicInstr};
 
-/// The instruction of A that a word spells, or none where the word meets no row.
+/// The instruction of A that a word spells, or none if the word meets no row.
 ///
 /// By the opcode and funct3, and by funct5.
 #[tactic(auto, using(crate::proofs::Lookup::by_masks, crate::proofs::RowReads::found_word), unfolding(crate::specs::Rows::atomic_instruction_of, crate::specs::Rows::atomic_encodings))]
@@ -21,7 +21,7 @@ pub fn decode(word: u32) -> Option<AtomicInstr>
     atomic(word)
 }
 
-/// The rows, which funct5 tells apart.
+/// The rows, which funct5 distinguishes.
 #[tactic(auto, using(crate::proofs::Lookup::by_masks), unfolding(crate::specs::Rows::atomic_instruction_of, crate::specs::Rows::atomic_encodings))]
 fn atomic(word: u32) -> Option<AtomicInstr>
     requires { bit_and word 0x707F ≡ 0x202F }

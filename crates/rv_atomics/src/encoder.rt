@@ -1,4 +1,4 @@
-//! The word of an instruction.
+//! Encodes an instruction of A as a word.
 
 ghost use Rattle.std.specs.Prelude.{◌≡◌, ◌*◌, ◌^◌, Some};
 ghost use Rattle.rv_tables.specs.Words.{IsEncoded};
@@ -11,7 +11,7 @@ ghost use Rattle.rv_atomics.specs.declared.instr.AtomicForm.TheVariants as form;
 use crate::instr::{AmoOp, AtomicInstr, Order};
 use rv_tables::words::r_word;
 
-/// The word of an instruction, or none where a register does not fit its field.
+/// The word of an instruction, or none if a register does not fit its field.
 ///
 /// Each instruction has one word.
 pub fn encode(instr: &AtomicInstr) -> Option<u32>

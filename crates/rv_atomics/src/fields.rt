@@ -1,4 +1,4 @@
-//! The bit fields of a word that those of whole numbers have not, and what their values stand for.
+//! The bit fields that only instructions of A have, and what their values mean.
 
 ghost use Rattle.std.specs.Prelude.{◌≡◌};
 ghost use Rattle.rv_tables.specs.Fields.{bits as bits_of};

@@ -1,4 +1,4 @@
-//! Facts about the rows and the words that they make. There is nothing to run: a caller calls one for what it ensures.
+//! Laws of the rows and of the words that they encode. There is nothing to run: a caller calls one for what it ensures.
 
 ghost use Rattle.std.specs.Prelude.{◌≡◌, ◌↔◌, ℕ, map, Contains, Some, None, IsSome};
 ghost use Rattle.std.specs.List.{AllPairs};

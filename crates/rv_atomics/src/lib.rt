@@ -1,7 +1,7 @@
 //! The instructions of A on words: their rows, words and names, and what the atomic memory operations compute.
 //!
-//! It is to these what `rv_tables` and `rv_values` are to whole numbers, and stands beside them: a code that has no instruction there may
-//! have one here, and none has one in both.
+//! This crate has for them what `rv_tables` and `rv_values` have for integer instructions. A code without an instruction there may have one
+//! here, and no code has one in both.
 //!
 //! A row of the listing fixes some bits of a word. The other bits are `aq` and `rl`, and the registers.
 //!
@@ -11,7 +11,7 @@
 //! - [`decode`] answers the instruction of a word, and none for a word of no row. Each register that it answers is below 32.
 //!   [`decode_code`] takes a halfword or a word: no halfword has one of these instructions.
 //! - [`encode`] goes back: it answers the one word of each instruction whose registers are below 32.
-//! - [`row_name`] and behind it [`order_suffix`] are the mnemonic of an instruction, as `lr.w.aq`, and [`atomic_named`] knows which
+//! - [`row_name`] followed by [`order_suffix`] is the mnemonic of an instruction, as `lr.w.aq`, and [`atomic_named`] knows which
 //!   instruction has a mnemonic.
 //! - [`amo_value`] is what an atomic memory operation stores, of the word that it has loaded and of the value in `rs2`, both numbers from
 //!   0 to 2^32 - 1.

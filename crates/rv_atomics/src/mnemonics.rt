@@ -63,14 +63,14 @@ static MNEMONICS: [(&str, AtomicInstr); 44] = mnemonics! {
     Maxu "amomaxu.w" "amomaxu.w.rl" "amomaxu.w.aq" "amomaxu.w.aqrl";
 };
 
-/// The instruction with a mnemonic, as `amoadd.w` or `lr.w.aqrl`, with x0 for each register; or none where no instruction has it.
+/// The instruction with a mnemonic, as `amoadd.w` or `lr.w.aqrl`, with x0 for each register; or none if no instruction has it.
 pub fn atomic_named(mnemonic: &[u8]) -> Option<AtomicInstr>
     ensures { result ≡ instruction_with_mnemonic mnemonic.now }
 {
     named(&MNEMONICS, mnemonic)
 }
 
-/// The name of an instruction's row in lower case, as `amoadd.w`. With [`order_suffix`] behind it, it is the instruction's mnemonic.
+/// The name of an instruction's row in lower case, as `amoadd.w`. With [`order_suffix`] after it, it is the instruction's mnemonic.
 pub fn row_name(instr: AtomicInstr) -> &'static str
     ensures { result.now ≡ name_of_row instr }
 {
@@ -98,7 +98,7 @@ fn amo_name(op: AmoOp) -> &'static str
     }
 }
 
-/// What stands behind the name of a row for `aq` and `rl`: nothing, `.rl`, `.aq` or `.aqrl`.
+/// What is after the name of a row for `aq` and `rl`: nothing, `.rl`, `.aq` or `.aqrl`.
 pub fn order_suffix(order: Order) -> &'static str
     ensures { result.now ≡ suffix_of order }
 {

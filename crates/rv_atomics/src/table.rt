@@ -1,4 +1,4 @@
-//! The rows as a table.
+//! The table of the rows.
 
 ghost use Rattle.rv_tables.specs.Tables.{AreRowsOf};
 ghost use Rattle.rv_atomics.specs.Rows.{atomic_encodings};

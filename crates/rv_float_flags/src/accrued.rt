@@ -1,4 +1,4 @@
-//! The flags of what is frequent, with those that are there already.
+//! The flags of the frequent operations, together with flags that are already set.
 
 ghost use Rattle.std.specs.Prelude.{◌≡◌};
 ghost use Rattle.rv_float_flags.specs.Flags.{accrued};

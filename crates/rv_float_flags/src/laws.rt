@@ -1,4 +1,4 @@
-//! Facts about the flags. There is nothing to run: a caller calls one for what it ensures.
+//! Laws of the flags. There is nothing to run: a caller calls one for what it ensures.
 
 ghost use Rattle.std.specs.Prelude.{◌≡◌, ℕ, ◌+◌, ◌-◌, ◌*◌, ◌^◌, ◌<◌, false, nat_lt, IsTrue};
 ghost use Rattle.std.specs.Float.{float_is_finite};

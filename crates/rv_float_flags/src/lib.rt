@@ -1,15 +1,15 @@
 //! The exception flags of the RISC-V extensions F and D: which of NV, DZ, OF, UF and NX an operation raises, by its operands' patterns.
 //!
-//! The flags of a finite result follow from the exact one, which is a fraction (`specs/Exact.antt`): NX where the rounded result differs
-//! from it, OF where that is past the largest finite value, UF where it is inexact and, rounded with an exponent that is unbounded, below
-//! the smallest normal value (tininess after rounding). NV and DZ follow from the operands. The values themselves are `rv_floats`'s.
+//! The flags of a finite result follow from the exact one, which is a fraction (`specs/Exact.antt`): NX if the rounded result differs from
+//! it, OF if the rounded result exceeds the largest finite value, UF if it is inexact and, rounded with an unbounded exponent, below the
+//! smallest normal value (tininess after rounding). NV and DZ follow from the operands. The values themselves are `rv_floats`'s.
 //!
 //! What callers may rely on:
 //!
 //! - [`add_flags`] to [`negated_multiply_add_flags`] are the flags of these operations to the nearest, ties to even.
 //! - [`accrued_add_flags`] to [`accrued_div_flags`] are the first four with flags that are there already.
-//! - [`add_without_new_flags`] to [`sqrt_without_new_flags`] are the values of these operations, where they raise no flags but those that
-//!   are there, and a few comparisons find it out.
+//! - [`add_without_new_flags`] to [`sqrt_without_new_flags`] are the values of these operations if they raise no new flags and a few
+//!   comparisons can show it.
 //! - [`quiet_flags`] are those of FEQ, FMIN and FMAX, [`ordered_flags`] those of FLT and FLE.
 //! - [`to_word_flags`] and its kin are those of conversions. Sign injection, classes, moves and words to doubles raise nothing.
 //! - [`Flags`] accrue by `|`: what is set stays. Their word is that of fflags.

@@ -1,4 +1,4 @@
-//! Sums, products, quotients and roots that raise no new flags, as far as a few comparisons find it out.
+//! Quick tests whether a sum, product, quotient or root raises no new flag.
 
 ghost use Rattle.std.specs.Prelude.{◌≡◌, is_some, IfSome};
 ghost use Rattle.rv_float_flags.specs.Flags.{accrued};
@@ -26,7 +26,7 @@ pub trait Quick: Pattern {
         ensures { result ≡ NoNewFlags.root_raises_no_new_flags Self.format flags (Self.bits a) };
 }
 
-/// FADD, where it raises no new flags, and that is found out at once.
+/// FADD, if it raises no new flags, and that is found out at once.
 // For speed: a finite sum of finite operands raises nothing but NX, and not even that where it has few digits. Nothing asks whether one of
 // them is a NaN.
 #[inline(always)]
@@ -43,7 +43,7 @@ pub fn add_without_new_flags<P: Quick>(flags: Flags, a: P, b: P) -> Option<P>
     }
 }
 
-/// FSUB, where it raises no new flags, and that is found out at once.
+/// FSUB, if it raises no new flags, and that is found out at once.
 #[inline(always)]
 pub fn sub_without_new_flags<P: Quick>(flags: Flags, a: P, b: P) -> Option<P>
     ensures when { is_some result ≡ NoNewFlags.sum_raises_no_new_flags P.format flags (P.bits a) (P.bits b) }
@@ -58,7 +58,7 @@ pub fn sub_without_new_flags<P: Quick>(flags: Flags, a: P, b: P) -> Option<P>
     }
 }
 
-/// FMUL, where it raises no new flags, and that is found out at once.
+/// FMUL, if it raises no new flags, and that is found out at once.
 #[inline(always)]
 pub fn mul_without_new_flags<P: Quick>(flags: Flags, a: P, b: P) -> Option<P>
     ensures when { is_some result ≡ NoNewFlags.product_raises_no_new_flags P.format flags (P.bits a) (P.bits b) }
@@ -73,7 +73,7 @@ pub fn mul_without_new_flags<P: Quick>(flags: Flags, a: P, b: P) -> Option<P>
     }
 }
 
-/// FDIV, where it raises no new flags, and that is found out at once.
+/// FDIV, if it raises no new flags, and that is found out at once.
 // For speed: by its exponents a quotient of normal numbers is neither tiny nor too large.
 #[inline(always)]
 pub fn div_without_new_flags<P: Quick>(flags: Flags, a: P, b: P) -> Option<P>
@@ -89,7 +89,7 @@ pub fn div_without_new_flags<P: Quick>(flags: Flags, a: P, b: P) -> Option<P>
     }
 }
 
-/// FSQRT, where it raises no new flags, and that is found out at once.
+/// FSQRT, if it raises no new flags, and that is found out at once.
 // For speed: a root of what is not below zero raises nothing but NX.
 #[inline(always)]
 pub fn sqrt_without_new_flags<P: Quick>(flags: Flags, a: P) -> Option<P>

@@ -1,4 +1,4 @@
-//! Which sums, products, quotients and roots of doubles raise no new flags, as far as a few comparisons find it out.
+//! Quick tests whether a sum, product, quotient or root of doubles raises no new flag.
 
 ghost use Rattle.std.specs.Prelude.{◌≡◌, ◌%◌, ◌^◌, ◌<◌, true, IsTrue};
 ghost use Rattle.rv_float_flags.specs.Scaled.{exponent, IsMiddling};

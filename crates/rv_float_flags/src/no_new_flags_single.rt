@@ -1,4 +1,4 @@
-//! The same of singles: which sums, products, quotients and roots raise no new flags, as far as a few comparisons find it out.
+//! Quick tests whether a sum, product, quotient or root of singles raises no new flag.
 
 ghost use Rattle.std.specs.Prelude.{◌≡◌, ◌%◌, ◌^◌, ◌<◌, true, IsTrue};
 ghost use Rattle.rv_float_flags.specs.Scaled.{single_exponent, IsSingleMiddling};

@@ -23,7 +23,7 @@ pub(crate) fn limit<P: Pattern>() -> Scaled
     }
 }
 
-/// The flags where a sum of multiples of 2^-2148, or their difference, has been rounded to `nearest`, or is infinite.
+/// The flags if a sum of multiples of 2^-2148, or their difference, has been rounded to `nearest`, or is infinite.
 pub(crate) fn sum_rounding(
     a: Scaled,
     b: Scaled,
@@ -103,7 +103,7 @@ fn is_sum_inexact(a: Scaled, b: Scaled, opposite: bool, nearest: Option<Scaled>)
     }
 }
 
-/// Whether a sum that is inexact is tiny. Where both terms are multiples of the format's smallest value, one that is tiny is exact.
+/// Whether a sum that is inexact is tiny. If both terms are multiples of the format's smallest value, one that is tiny is exact.
 #[inline(always)]
 fn is_sum_tiny(a: Scaled, b: Scaled, opposite: bool, limit: Scaled) -> bool
     requires a_narrow { a.digits < 2 ^ 106 }
@@ -117,7 +117,7 @@ fn is_sum_tiny(a: Scaled, b: Scaled, opposite: bool, limit: Scaled) -> bool
     a.place < limit.place + 2 && sum_is_below(a, b, opposite, limit)
 }
 
-/// The flags where a quotient has been rounded to `nearest`, or is infinite.
+/// The flags if a quotient has been rounded to `nearest`, or is infinite.
 pub(crate) fn quotient_rounding(
     x: Scaled,
     y: Scaled,

@@ -43,7 +43,7 @@ impl Scaled {
     }
 }
 
-/// `x * 2^n`, where that is below 2^120.
+/// `x * 2^n`, if that is below 2^120.
 pub fn times_power(x: u128, n: u32) -> Option<u128>
     ensures { MatchOption result (2 ^ 120 ≤ x * 2 ^ n) (λ v. (v ≡ x * 2 ^ n) × (v < 2 ^ 120)) }
 {
@@ -113,7 +113,7 @@ pub(crate) fn odd_part(a: Scaled) -> Scaled
     }
 }
 
-/// Whether `c` is the sum of `a` and `b` in size, or their difference where they are `opposite`.
+/// Whether `c` is the sum of `a` and `b` in size, or their difference if they are `opposite`.
 pub(crate) fn is_sum(a: Scaled, b: Scaled, opposite: bool, c: Scaled) -> bool
     requires a_narrow { a.digits < 2 ^ 106 }
     requires b_narrow { b.digits < 2 ^ 106 }
@@ -129,7 +129,7 @@ pub(crate) fn is_sum(a: Scaled, b: Scaled, opposite: bool, c: Scaled) -> bool
     }
 }
 
-/// `is_sum` where `a` has the lower place.
+/// `is_sum` if `a` has the lower place.
 // For speed: most terms are so near to one another that nothing has to be known of their digits.
 fn is_ordered_sum(a: Scaled, b: Scaled, opposite: bool, c: Scaled) -> bool
     requires ordered { a.place ≤ b.place }
@@ -191,7 +191,7 @@ fn is_far_sum(a: Scaled, b: Scaled, opposite: bool, c: Scaled) -> bool
     }
 }
 
-/// `is_sum` of odd digits. Where `b` is far above `a`, the sum is too long a number for the digits of `c`.
+/// `is_sum` of odd digits. If `b` is far above `a`, the sum is too long a number for the digits of `c`.
 fn is_odd_sum(a: Scaled, b: Scaled, opposite: bool, c: Scaled) -> bool
     requires a_odd { a.digits % 2 ≡ 1 }
     requires ordered { a.place ≤ b.place }
@@ -206,7 +206,7 @@ fn is_odd_sum(a: Scaled, b: Scaled, opposite: bool, c: Scaled) -> bool
     }
 }
 
-/// Whether the sum of `a` and `b` is below `limit`, or their difference where they are `opposite`. `b` is a multiple of `2^limit.place`.
+/// Whether the sum of `a` and `b` is below `limit`, or their difference if they are `opposite`. `b` is a multiple of `2^limit.place`.
 pub(crate) fn sum_is_below(a: Scaled, b: Scaled, opposite: bool, limit: Scaled) -> bool
     requires a_narrow { a.digits < 2 ^ 106 }
     requires a_low { a.place < limit.place + 2 }

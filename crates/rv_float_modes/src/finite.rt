@@ -170,7 +170,7 @@ fn is_down(mode: Rounding) -> bool
     }
 }
 
-/// A sum of magnitudes, or their difference where they are `opposite`, rounded with a sign.
+/// A sum of magnitudes, or their difference if they are `opposite`, rounded with a sign.
 fn aligned_sum(
     mode: Rounding,
     negative: bool,
@@ -205,7 +205,7 @@ fn sum_of(a: u128, b: u128, opposite: bool) -> u128
     if opposite { a.abs_diff(b) } else { a + b }
 }
 
-/// The sum where the higher of the two is much larger: of the lower one, what is below the 120 digits of the higher one is a rest.
+/// The sum if the higher of the two is much larger: of the lower one, what is below the 120 digits of the higher one is a rest.
 fn far_sum(low: Scaled, high: Scaled, opposite: bool) -> Magnitude
     requires ordered { low.place ≤ high.place }
     requires low_narrow { low.digits < 2 ^ 106 }

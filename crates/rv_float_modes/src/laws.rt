@@ -1,4 +1,4 @@
-//! Facts about rounding. There is nothing to run: a caller calls one for what it ensures.
+//! Laws of rounding. There is nothing to run: a caller calls one for what it ensures.
 
 ghost use Rattle.std.specs.Prelude.{◌≡◌, ℕ, ℤ, ◌+◌, ◌*◌, ◌^◌, ◌<◌, ◌≤◌, false, to_bits};
 ghost use Rattle.std.specs.Float.{round_to_format};

@@ -10,8 +10,8 @@
 //! - [`laws`] has what holds of all roundings: the truncated pattern is not above and the next one is, and to the nearest, ties to
 //!   even, this is the library's rounding, with the flags of `rv_float_flags`, and so is each operation.
 //!
-//! No operation of the host is made where the operands are finite: the digits of the exact result, in numbers of 128 bits, are cut off
-//! where the format's end (`src/rounding.rt`).
+//! If the operands are finite, no floating-point operation of the host is used: the digits of the exact result, in numbers of 128 bits, are
+//! cut off where the format's end (`src/rounding.rt`).
 //!
 //! Source: The RISC-V Instruction Set Manual, Volume I: Unprivileged ISA, 20191213, chapters 11 and 12; IEEE 754-2008, clauses 4 and 7.
 #![tactic(auto)]

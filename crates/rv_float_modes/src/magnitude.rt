@@ -3,7 +3,7 @@
 ghost use Rattle.std.specs.Prelude.{◌≡◌, ◌+◌, ◌*◌, ◌^◌, ◌<◌, ◌≤◌, false};
 ghost use Rattle.rv_float_modes.specs.Enclosed.{IsWide};
 
-/// `(digits + rest) * 2^(place - 4096)`, with a rest below 1, which is there where it `goes_on`.
+/// `(digits + rest) * 2^(place - 4096)`, with a rest below 1, which is there if it `goes_on`.
 #[derive(Clone, Copy)]
 pub(crate) struct Magnitude {
     pub(crate) digits: u128,

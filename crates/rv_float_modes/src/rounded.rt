@@ -1,4 +1,4 @@
-//! What an operation gives.
+//! The result of an operation: a pattern and its flags.
 
 use rv_float_flags::Flags;
 

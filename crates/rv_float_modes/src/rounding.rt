@@ -45,7 +45,7 @@ pub(crate) struct Cut {
     pub(crate) pattern: u64,
     /// At least half of what leads to the next pattern's value.
     pub(crate) half: bool,
-    /// More than half, or more than nothing where it is less than half.
+    /// More than half, or more than nothing if it is less than half.
     pub(crate) more: bool,
 }
 

@@ -1,4 +1,4 @@
-//! The instruction that a halfword expands to.
+//! Expands a compressed load or store of floating point.
 
 ghost use Rattle.std.specs.Prelude.{◌≡◌};
 ghost use Rattle.rv_tables.specs.Halfwords as Halfwords;
@@ -9,7 +9,7 @@ ghost use Rattle.rv_float_tables.specs.Operands.{IsEncodable};
 use crate::halfword;
 use crate::instr::{FloatInstr, Format};
 
-/// The instruction of floating point that a halfword expands to, or none where it meets no row of these.
+/// The instruction of floating point that a halfword expands to, or none if it meets no row of these.
 #[tactic(auto, using(crate::proofs::CompressedRows::found_halfword))]
 pub fn decode16(half: u16) -> Option<FloatInstr>
     ensures { IsFound IsEncodable (float_expansion_of half) result }

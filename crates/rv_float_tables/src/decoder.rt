@@ -1,4 +1,4 @@
-//! The instruction of a word.
+//! Decodes a word of floating point.
 
 ghost use Rattle.std.specs.Prelude.{◌≡◌, ◌≢◌, ◌/◌, ◌^◌, ◌≤◌, ◌<◌, bit_and};
 ghost use Rattle.std.specs.Option.{option_and_then};
@@ -29,8 +29,8 @@ macro_rules! met {
     };
 }
 
-/// The instruction of floating point that a word spells, or none where the word meets no row, has a reserved rounding mode, or names a
-/// control and status register of another kind.
+/// The instruction of floating point that a word spells, or none if the word meets no row, has a reserved rounding mode, or names a control
+/// and status register of another kind.
 ///
 /// By the opcode and funct5, and by the rows of their form.
 #[tactic(auto, using(crate::proofs::Lookup::by_no_opcode, crate::proofs::RowReads::found_word), unfolding(crate::proofs::Lookup::among, crate::specs::Rows::float_encodings))]
@@ -47,7 +47,7 @@ pub fn decode(word: u32) -> Option<FloatInstr>
     }
 }
 
-/// The rows of opcode OP-FP, which funct5 tells apart.
+/// The rows of opcode OP-FP, which funct5 distinguishes.
 #[tactic(auto, using(crate::proofs::Lookup::by_no_funct5), unfolding(crate::proofs::Lookup::among, crate::specs::Rows::float_encodings))]
 fn operation(word: u32) -> Option<FloatInstr>
     requires { Fields.opcode word ≡ 0x53 }

@@ -1,4 +1,4 @@
-//! The word of an instruction.
+//! Encodes a floating-point instruction as a word.
 
 ghost use Rattle.std.specs.Prelude.{◌≡◌, ◌++◌, codes, Some};
 ghost use Rattle.rv_tables.specs.Words.{IsEncoded};
@@ -31,7 +31,7 @@ macro_rules! value_of {
     };
 }
 
-/// The word of an instruction, or none where a register or an immediate does not fit its field.
+/// The word of an instruction, or none if a register or an immediate does not fit its field.
 ///
 /// Each instruction has one word.
 pub fn encode(instr: &FloatInstr) -> Option<u32>

@@ -1,4 +1,4 @@
-//! The bit fields of a word that those of whole numbers have not, and what their values stand for.
+//! The bit fields that integer instructions do not have, and what their values mean.
 
 ghost use Rattle.std.specs.Prelude.{◌≡◌};
 ghost use Rattle.rv_float_tables.specs.Fields.{funct5, rm, csr, uimm, rs3};
@@ -28,7 +28,7 @@ pub fn uimm(word: u32) -> u8
     bits(word, 19, 15) as u8
 }
 
-/// The rounding mode of an operation, or none where it is reserved.
+/// The rounding mode of an operation, or none if it is reserved.
 #[inline]
 pub fn rounding(word: u32) -> Option<RoundingField>
     ensures { result ≡ rounding_of (rm word) }
@@ -44,7 +44,7 @@ pub fn rounding(word: u32) -> Option<RoundingField>
     }
 }
 
-/// The control and status register that a word names, or none where it is not one of floating point.
+/// The control and status register that a word names, or none if it is not one of floating point.
 #[inline]
 pub fn csr(word: u32) -> Option<FloatCsr>
     ensures { result ≡ csr_of (csr word) }

@@ -1,7 +1,7 @@
 //! Instructions, and the rows of the listings.
 //!
-//! `rd`, `rs1`, `rs2` and `rs3` are numbers of floating-point registers, f0 to f31, where a form does not say that one is an integer
-//! register, x0 to x31.
+//! `rd`, `rs1`, `rs2` and `rs3` are numbers of floating-point registers, f0 to f31, unless a form says that one is an integer register, x0
+//! to x31.
 
 /// How the operands of an instruction lie in its word.
 #[derive(Clone, Copy)]
@@ -142,7 +142,7 @@ pub enum FloatCsr {
     Fcsr,
 }
 
-/// An instruction. Registers are 0 to 31, integer ones where [`FloatForm`] says so; an immediate is the value that it stands for.
+/// An instruction. Registers are 0 to 31, integer ones if [`FloatForm`] says so; an immediate is the value that it stands for.
 #[derive(Clone, Copy)]
 pub enum FloatInstr {
     Load {

@@ -1,8 +1,8 @@
 //! The instructions of F and D, and those of Zicsr on the registers of floating point: their rows, words, names and registers; and the
 //! compressed loads and stores, which expand to them.
 //!
-//! It is to floating point what `rv_tables` is to whole numbers, and stands beside it: a code that has no instruction there may have one
-//! here, and none has one in both.
+//! This crate has for floating point what `rv_tables` has for integers. A code without an instruction there may have one here, and no code
+//! has one in both.
 //!
 //! A row of the listings fixes some bits of a word, and the other bits are the operands of its form. Two of these fields have values that
 //! are of no instruction: the rounding modes 5 and 6, which are reserved, and the number of each control and status register but
@@ -16,7 +16,7 @@
 //! - [`encode`] goes back: it answers the one word of each instruction whose operands fit.
 //! - [`decode16`] answers the instruction that a halfword expands to, and none for a halfword of no compressed row of these. What it
 //!   answers is an instruction that `encode` takes.
-//! - [`decode_code`] takes either: `rv_tables` tells them apart.
+//! - [`decode_code`] takes either: `rv_tables` knows which one it is.
 //! - [`mnemonic`], [`rounding_name`], [`csr_name`] and [`float_reg_name`] know the names of the manual; [`rounding_named`], [`csr_named`]
 //!   and [`float_reg_number`] know what has a name.
 //! - [`listing`] is the list of the rows, [`FLOAT_ROW_COUNT`] of them, for tables of other crates.

@@ -1,4 +1,4 @@
-//! The names of the instructions, of rounding modes, and of control and status registers.
+//! The names of instructions, of rounding modes, and of control and status registers.
 
 ghost use Rattle.std.specs.Prelude.{◌≡◌};
 ghost use Rattle.rv_float_tables.specs.Mnemonics.{float_mnemonic_of, rounding_name, rounding_named, csr_name, csr_named};
@@ -76,7 +76,7 @@ pub fn rounding_name(rounding: RoundingField) -> &'static str
     }
 }
 
-/// The rounding mode with a name, or none where no mode has it.
+/// The rounding mode with a name, or none if no mode has it.
 pub fn rounding_named(name: &[u8]) -> Option<RoundingField>
     ensures { result ≡ rounding_named name.now }
 {
@@ -94,7 +94,7 @@ pub fn csr_name(csr: FloatCsr) -> &'static str
     }
 }
 
-/// The control and status register of floating point with a name, or none where none of them has it.
+/// The control and status register of floating point with a name, or none if none of them has it.
 pub fn csr_named(name: &[u8]) -> Option<FloatCsr>
     ensures { result ≡ csr_named name.now }
 {

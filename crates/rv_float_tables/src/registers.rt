@@ -1,4 +1,4 @@
-//! The names of the registers.
+//! The names of the floating-point registers.
 
 ghost use Rattle.std.specs.Prelude.{◌≡◌};
 ghost use Rattle.std.specs.Option.{option_map};
@@ -74,7 +74,7 @@ static NAMES: [(&str, u8); 64] = [
     ("ft11", 31),
 ];
 
-/// The number of the floating-point register with a name, or none where no register has it.
+/// The number of the floating-point register with a name, or none if no register has it.
 ///
 /// The names are `f0` to `f31`, with no leading zero, and those of the calling convention: `ft0` to `ft11`, `fs0` to `fs11`,
 /// `fa0` to `fa7`.

@@ -1,4 +1,4 @@
-//! NaNs that signal, and classes.
+//! Signaling NaNs, and FCLASS.
 
 ghost use Rattle.std.specs.Prelude.{◌≡◌};
 ghost use Rattle.rv_floats.specs.Classes as Classes;

@@ -69,7 +69,7 @@ pub fn maximum<P: Pattern>(a: P, b: P) -> P
     greatest.canonical()
 }
 
-/// Whether the first of two numbers is less than the second, where a zero with a minus is less than one with a plus.
+/// Whether the first of two numbers is less than the second; here a zero with a minus is less than one with a plus.
 #[inline(always)]
 pub fn is_before<P: Pattern>(a: P, b: P) -> bool
     requires first { NotNanBits P.format (P.bits a) }

@@ -59,7 +59,7 @@ pub fn boxed(a: u32) -> u64
     0xffff_ffff_0000_0000 + a as u64
 }
 
-/// The single that a register of 64 bits has, and the canonical NaN where it has none.
+/// The single that a register of 64 bits has, and the canonical NaN if it has none.
 #[inline]
 pub fn unboxed(register: u64) -> u32
     ensures { result ≡ Conversions.unboxed register }

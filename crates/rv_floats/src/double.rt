@@ -1,4 +1,4 @@
-//! Doubles.
+//! The patterns of doubles.
 
 ghost use Rattle.std.specs.Prelude.{◌≡◌};
 ghost use Rattle.rv_floats.specs.Conversions.{rounded_whole};

@@ -1,4 +1,4 @@
-//! Facts about patterns. There is nothing to run: a caller calls one for what it ensures.
+//! Laws of patterns. There is nothing to run: a caller calls one for what it ensures.
 
 ghost use Rattle.std.specs.Prelude.{◌≡◌, ℕ, ◌^◌, ◌<◌, to_bits};
 ghost use Rattle.rv_floats.specs.Conversions.{boxed, unboxed};

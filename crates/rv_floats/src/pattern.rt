@@ -145,7 +145,7 @@ pub trait Pattern: Copy {
     fn top() -> u64
         ensures { result ≡ top format };
 
-    /// The least bit of the exponent field, which is behind the digits.
+    /// The least bit of the exponent field, which is after the digits.
     fn hidden() -> u64
         ensures { result ≡ hid format };
 
@@ -157,7 +157,7 @@ pub trait Pattern: Copy {
     fn in_register(self) -> u64
         ensures { result ≡ Conversions.in_register format (bits self) };
 
-    /// The pattern that a register of 64 bits has, and the canonical NaN where it has none.
+    /// The pattern that a register of 64 bits has, and the canonical NaN if it has none.
     fn of_register(register: u64) -> Self
         ensures { bits result ≡ Conversions.of_register format register };
 }

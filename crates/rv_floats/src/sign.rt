@@ -21,7 +21,7 @@ pub fn sign_negated<P: Pattern>(a: P, b: P) -> P
     with_sign(!has_sign_bit(b), a)
 }
 
-/// FSGNJX: with a minus where the signs differ.
+/// FSGNJX: with a minus if the signs differ.
 #[inline]
 pub fn sign_xored<P: Pattern>(a: P, b: P) -> P
     ensures { P.bits result ≡ Signs.sign_xored P.format (P.bits a) (P.bits b) }

@@ -1,4 +1,4 @@
-//! Singles, which a register of 64 bits has in its lower half.
+//! The patterns of singles, which are in the lower half of a register of 64 bits.
 
 ghost use Rattle.std.specs.Prelude.{◌≡◌};
 ghost use Rattle.rv_floats.specs.Conversions.{rounded_whole};

@@ -1,4 +1,4 @@
-//! Statements of instructions of floating point.
+//! Statements of floating-point instructions.
 
 ghost use Rattle.std.specs.Prelude.{◌≡◌, ◌++◌, codes};
 ghost use Rattle.std.specs.List.{flat_map};
@@ -103,7 +103,7 @@ fn float_operands_of(instr: FloatInstr) -> FloatOperands
     }
 }
 
-/// What stands behind the other operands for the rounding mode of an instruction, if it is written.
+/// What is after the other operands for the rounding mode of an instruction, if it is written.
 fn rounding_of(instr: FloatInstr) -> &'static str
     ensures { result.now ≡ flat_map (λ operand. codes "," ++ operand) (rounding_operands instr) }
 {
@@ -144,8 +144,8 @@ impl fmt::Display for FloatOperand {
     }
 }
 
-/// What stands behind the other operands for the rounding mode of a row that makes a value of a format of a word, or of one of the
-/// other format: doubles hold each of these exactly.
+/// What is after the other operands for the rounding mode of a row that makes a value of a format of a word, or of one of the other format:
+/// doubles hold each of these exactly.
 fn rounding_to(format: Format, rm: RoundingField) -> &'static str
     ensures { result.now ≡ flat_map (λ operand. codes "," ++ operand) (rounding_to format rm) }
 {

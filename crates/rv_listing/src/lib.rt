@@ -1,7 +1,7 @@
 //! Assembly statements of codes, and listings of images.
 //!
-//! A code at an address is one statement: the instruction that it spells, with the address to which it jumps where it
-//! does, or data where it spells none. A listing has a line for each code of each segment, with its address.
+//! A code at an address is one statement: its instruction, with the target address if it jumps, or data if it is not an instruction. A
+//! listing has a line for each code of each segment, with its address.
 //!
 //! What callers may rely on:
 //!
@@ -12,8 +12,8 @@
 //!   order, each ended by a line feed.
 //! - Instructions of extensions are data in all of these, as on nodes without them. [`ShownLine`] and [`NamedStatement`] have the names
 //!   of those of floating point and of A, as GNU objdump writes them; all else is the same there.
-//! - [`TwoDigits`], [`FourDigits`] and [`EightDigits`] display bytes, halfwords and words as listings write them, for other texts
-//!   that show such; [`word_at`] gives the word that stands at a place among bytes.
+//! - [`TwoDigits`], [`FourDigits`] and [`EightDigits`] display bytes, halfwords and words as listings write them, for other texts that show
+//!   them. [`word_at`] gives the word at a place among bytes.
 //! - The text of a code does not rest on the codes beside it, and says nothing of labels, sections or pseudo-instructions. A
 //!   compressed instruction has the text of the one to which it expands, with a comment that it is compressed.
 //!

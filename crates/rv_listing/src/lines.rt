@@ -52,8 +52,8 @@ impl fmt::Display for Line {
     }
 }
 
-/// The lines of a segment that are left, from the lowest address up: one for each code of its bytes, and then, where what is
-/// left is no whole code, one for each of these one to three bytes. The zeros that follow a segment's bytes have no lines.
+/// The lines of a segment that are left, from the lowest address up: one for each code of its bytes, and then, if what is left is no whole
+/// code, one for each of these one to three bytes. The zeros that follow a segment's bytes have no lines.
 ///
 /// Contracts see the list of the lines that are left.
 #[derive(Drop)]
@@ -132,7 +132,7 @@ fn next_code(bytes: &[u8], at: usize, is_rest: bool) -> Option<Code>
     if is_rest { None } else { code_at(bytes, at) }
 }
 
-/// The code at an index, or none where the bytes end before it does.
+/// The code at an index, or none if the bytes end before it does.
 fn code_at(bytes: &[u8], at: usize) -> Option<Code>
     requires { at ≤ length bytes.now }
     ensures { result ≡ code_at bytes.now at }

@@ -59,8 +59,7 @@ impl fmt::Display for InstructionAt {
     }
 }
 
-/// The operands of an instruction: its registers, and the last operand behind them. Its text begins with a blank where it
-/// has any.
+/// The operands of an instruction: its registers, and the last operand after them. Its text begins with a blank if it has any.
 #[derive(Clone, Copy)]
 enum Operands {
     None,
@@ -145,10 +144,10 @@ impl fmt::Display for Operand {
     }
 }
 
-/// The text of the assembly statement with which a word begins, at an address: `list(alloc, 0x0000_0663, 0)` is
-/// `beq x0,x0,0x0000000c`. Where the word's low bits are not 11, the statement is that of its lower half.
+/// The text of the assembly statement with which a word begins, at an address: `list(alloc, 0x0000_0663, 0)` is `beq x0,x0,0x0000000c`. If
+/// the word's low bits are not 11, the statement is that of its lower half.
 ///
-/// It is an error only where memory is refused.
+/// It is an error only if memory is refused.
 pub fn list<A: Allocator>(alloc: A, word: u32, addr: u32) -> Result<Vec<u8, A>, AllocError>
     ensures { IfOk result (λ text. text.items ≡ statement_of (code_in word) addr) }
 {

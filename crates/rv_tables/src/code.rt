@@ -19,7 +19,7 @@ pub enum Code {
 }
 
 impl Code {
-    /// The code with which a word begins: the whole word where its low bits are 11, else its lower half.
+    /// The code with which a word begins: the whole word if its low bits are 11, else its lower half.
     // For speed: these three are a part of each step of a node.
     #[inline(always)]
     pub fn first_in(word: u32) -> Code
@@ -55,7 +55,7 @@ impl Code {
     }
 }
 
-/// The bytes of the code with which a word begins: 4 where the word's low bits are 11, else 2.
+/// The bytes of the code with which a word begins: 4 if the word's low bits are 11, else 2.
 #[inline(always)]
 pub fn code_length(word: u32) -> u32
     ensures { result ≡ code_length word }

@@ -1,4 +1,4 @@
-//! The instruction that a halfword expands to.
+//! Expands a halfword to the instruction that it stands for.
 
 ghost use Rattle.std.specs.Prelude.{◌≡◌, nat_lt, if◌then◌else◌, Some, None};
 ghost use Rattle.rv_tables.specs.Fields.{bits};
@@ -11,11 +11,10 @@ use crate::fields::bits;
 use crate::halfword;
 use crate::instr::{BranchOp, IOp, Instr, LoadOp, PlainOp, ROp, ShiftOp, StoreOp, UpperOp};
 
-/// The instruction that a halfword expands to, or none where it meets no row of RV32C: where its low bits are 11, as those of
-/// a word's first half are, where its code is reserved, and where it is an instruction of floating point. A hint expands to an
-/// instruction that does nothing.
+/// The instruction that a halfword expands to, or none if it meets no row of RV32C: if its low bits are 11, as those of a word's first half
+/// are, if its code is reserved, and if it is an instruction of floating point. A hint expands to an instruction that does nothing.
 ///
-/// By matches on the quadrant and on funct3, and on further bits where these ask for them.
+/// By matches on the quadrant and on funct3, and on further bits if these ask for them.
 // For speed: a node decodes a halfword in each step on compressed code.
 #[inline(always)]
 #[tactic(auto, using(crate::proofs::CompressedLookup::by_fields, crate::proofs::CompressedReads::found_halfword), unfolding(crate::proofs::CompressedLookup::expansion_at, crate::specs::Compressed::compressed_rows))]
@@ -117,7 +116,7 @@ fn quadrant_1(half: u32) -> Option<Instr>
     }
 }
 
-/// The two rows with a large immediate, which rd tells apart. An immediate of 0 is reserved in both.
+/// The two rows with a large immediate, which rd distinguishes. An immediate of 0 is reserved in both.
 #[inline(always)]
 #[tactic(auto, using(crate::proofs::EachCompressedRow::large))]
 fn addi16sp_or_lui(half: u32) -> Option<Instr>
@@ -144,7 +143,7 @@ fn addi16sp_or_lui(half: u32) -> Option<Instr>
     })
 }
 
-/// The rows that change one of x8 to x15 by an amount, an immediate or another register, which bits 11 and 10 tell apart.
+/// The rows that change one of x8 to x15 by an amount, an immediate or another register, which bits 11 and 10 distinguish.
 #[inline(always)]
 #[tactic(auto, using(crate::proofs::EachCompressedRow::arithmetic))]
 fn arithmetic(half: u32) -> Option<Instr>
@@ -184,7 +183,7 @@ fn shift(op: ShiftOp, register: u8, half: u32) -> Option<Instr>
     })
 }
 
-/// The rows on two of x8 to x15, which bits 6 and 5 tell apart.
+/// The rows on two of x8 to x15, which bits 6 and 5 distinguish.
 #[inline(always)]
 #[tactic(auto, using(crate::proofs::CompressedLookup::by_fields), unfolding(crate::proofs::CompressedLookup::expansion_at, crate::specs::Compressed::compressed_rows))]
 fn registers(half: u32) -> Option<Instr>
@@ -283,7 +282,7 @@ fn jr_or_mv(half: u32) -> Option<Instr>
     })
 }
 
-/// Without rs2 a jump with a link, or a break where it has no register at all; with rs2 a sum.
+/// Without rs2 a jump with a link, or a break if it has no register at all; with rs2 a sum.
 #[inline(always)]
 #[tactic(auto, using(crate::proofs::CompressedLookup::by_fields), unfolding(crate::proofs::CompressedLookup::expansion_at, crate::specs::Compressed::compressed_rows))]
 fn ebreak_or_jalr_or_add(half: u32) -> Option<Instr>

@@ -1,4 +1,4 @@
-//! The instruction of a word.
+//! Decodes a word.
 
 ghost use Rattle.std.specs.Prelude.{◌≡◌, ◌≢◌, ◌⊎◌, bit_and};
 ghost use Rattle.std.specs.Option.{option_map};
@@ -21,7 +21,7 @@ macro_rules! met {
     };
 }
 
-/// The instruction that a word spells, or none where the word meets no row.
+/// The instruction that a word spells, or none if the word meets no row.
 ///
 /// By the opcode, and by the rows of the opcode's form.
 // For speed: a node decodes a word in each step, and a call of its own would cost as much as the rest of the step.

@@ -1,4 +1,4 @@
-//! The word of an instruction.
+//! Encodes an instruction as a word.
 
 ghost use Rattle.std.specs.Prelude.{◌≡◌, ◌↔◌, ℕ, ◌^◌, ◌<◌, Some, IsSome, IfSome, bit_and};
 ghost use Rattle.rv_tables.specs.Mnemonics.{row_named, r_mnemonic, i_mnemonic, shift_mnemonic, load_mnemonic, store_mnemonic};
@@ -20,7 +20,7 @@ macro_rules! value_of {
     };
 }
 
-/// The word of an instruction, or none where a register, a shift amount or an immediate does not fit its field.
+/// The word of an instruction, or none if a register, a shift amount or an immediate does not fit its field.
 ///
 /// Each instruction has one word, but for the two fences: `fence` is answered as `fence iorw,iorw`, and `fence.i` with
 /// its unused fields zero.

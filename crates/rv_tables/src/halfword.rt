@@ -143,7 +143,7 @@ pub fn branch_offset(half: u32) -> i32
     (high + low) as i32 - sign(half) * 0x100
 }
 
-/// 1 where a signed immediate is below 0, else 0.
+/// 1 if a signed immediate is below 0, else 0.
 #[inline]
 fn sign(half: u32) -> i32
     ensures { result ≡ pos (Fields.bits half 12 12) }

@@ -121,8 +121,8 @@ pub enum PlainOp {
     Ebreak,
 }
 
-/// An instruction. Registers are 0 to 31; immediates are the values that they stand for, sign-extended where the
-/// manual extends them, and `Upper`'s is the field itself.
+/// An instruction. Registers are 0 to 31; immediates are the values that they stand for, sign-extended if the manual extends them, and
+/// `Upper`'s is the field itself.
 #[derive(Clone, Copy)]
 pub enum Instr {
     R {

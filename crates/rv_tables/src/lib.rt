@@ -12,16 +12,16 @@
 //!   and is the only one to do so, but for the two fences.
 //! - [`decode16`] answers the instruction that a halfword expands to, and none for a halfword of no compressed row or of a
 //!   reserved code. What it answers is an instruction that `encode` takes.
-//! - A [`Code`] is what stands in memory for one instruction: a halfword or a word, as its low bits tell. It has a length in bytes
-//!   and at most one instruction, by the two above.
+//! - A [`Code`] is one instruction in memory: a halfword or a word, depending on its low bits. It has a length in bytes and at most one
+//!   instruction, by the two above.
 //! - [`fields`] and [`halfword`] cut a word and a halfword as the manual does, [`words`] has the words of the base formats, and [`named`]
 //!   looks names up, for tables of further extensions too.
 //! - [`reg_number`], [`mnemonic`] and [`instr_named`] know the names of the manual, and no others.
 //! - [`laws`] has what holds of all words: each spells at most one instruction, which is the one that is decoded. And of all
 //!   halfwords: each is of at most one compressed row.
 //!
-//! Source: The RISC-V Instruction Set Manual, Volume I: Unprivileged ISA, 20191213, chapters 2, 3 and 7, the listings
-//! of chapter 24 and the names of chapter 25, and chapter 16 for RV32C, of which floating point is left out.
+//! Source: The RISC-V Instruction Set Manual, Volume I: Unprivileged ISA, 20191213, chapters 2, 3 and 7, the listings of chapter 24 and the
+//! names of chapter 25, and chapter 16 for RV32C without floating point.
 #![tactic(auto)]
 
 mod code;

@@ -57,7 +57,7 @@ macro_rules! names_of {
 
 static NAMES: [(&str, Instr); ROW_COUNT] = listing!(all; names_of []);
 
-/// The instruction with a name, as [`mnemonic`] answers it, with 0 for each operand; or none where no instruction has it.
+/// The instruction with a name, as [`mnemonic`] answers it, with 0 for each operand; or none if no instruction has it.
 pub fn instr_named(name: &[u8]) -> Option<Instr>
     ensures { result ≡ instruction_named name.now }
 {

@@ -73,7 +73,7 @@ static NAMES: [(&str, u8); 65] = [
     ("fp", 8),
 ];
 
-/// The number of the register with a name, or none where no register has it.
+/// The number of the register with a name, or none if no register has it.
 ///
 /// The names are `x0` to `x31`, with no leading zero, and those of the calling convention: `zero`, `ra`, `sp`, `gp`,
 /// `tp`, `t0` to `t6`, `s0` (also `fp`) to `s11`, `a0` to `a7`.

@@ -1,4 +1,4 @@
-//! The words of the base formats: a row's value, and operands where the value has no bits.
+//! The words of the base formats: a row's value, and operands in the bits that the value leaves free.
 
 ghost use Rattle.std.specs.Prelude.{◌≡◌, ◌+◌, ◌*◌, ◌^◌, ◌<◌, bit_and};
 ghost use Rattle.rv_tables.specs.Fields as Fields;

@@ -4,9 +4,9 @@
 //! as numbers that they are given.
 //!
 //! What callers may rely on: each function is what the manual says of its rows, in whole numbers, for all values. [`r_value`] has the
-//! instructions on two registers, of which a division by zero and the one that overflows answer as the manual has them; [`i_value`] and
-//! [`shift_value`] have those on a register and an immediate, [`upper_value`] LUI and AUIPC, [`is_taken`] the branches, and
-//! [`offset_by`] the addresses of loads, stores and jumps.
+//! instructions on two registers; a division by zero and the division that overflows answer as the manual says; [`i_value`] and
+//! [`shift_value`] have those on a register and an immediate, [`upper_value`] LUI and AUIPC, [`is_taken`] the branches, and [`offset_by`]
+//! the addresses of loads, stores and jumps.
 //!
 //! Source: The RISC-V Instruction Set Manual, Volume I: Unprivileged ISA, 20191213, sections 2.4 and 2.5, and chapter 7.
 #![tactic(auto)]

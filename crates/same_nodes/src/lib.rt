@@ -1,8 +1,8 @@
-//! Whether two nodes have equal records, for tests: what their readers give is compared, byte by byte.
+//! Compares the records of two nodes, for tests, by what their readers return, byte by byte.
 //!
-//! If the answer is that they have, the records are equal except for the most ticks that a node may make, and the addresses and sizes of
-//! this superstep's pushes and pops. The kinds and the order of these are compared, and their areas once they are in effect. Which pages
-//! are private, and whether room is made, is not compared.
+//! If the answer is that they are equal, the records are equal except for the limit of ticks, and the addresses and sizes of this
+//! superstep's pushes and pops. The kinds and the order of these are compared, and their areas once they are in effect. It does not compare
+//! which pages are private, or whether room is made.
 #![tactic(auto)]
 
 ghost use Rattle.std.specs.Prelude.{◌≡◌, length, slice_get, slice_index, IfOk, IsTrue, option_map};
@@ -22,7 +22,7 @@ use std::alloc::Allocator;
 /// Whether two nodes have equal records, as far as the crate's page says.
 ///
 /// # Errors
-/// Where there is no memory for a copy of the nodes' bytes.
+/// If there is no memory for a copy of the nodes' bytes.
 pub fn are_same<A: Allocator + Copy>(node: &Node<A>, other: &Node<A>) -> Result<bool, ReadError>
     ensures { IfOk result (λ same. IsTrue same → LookAlike node.now.node other.now.node) }
 {
@@ -234,7 +234,7 @@ fn are_same_messages<A: Allocator>(message: &Message<A>, other: &Message<A>) -> 
 /// Whether two memories have the same bytes.
 ///
 /// # Errors
-/// Where there is no memory for a copy of the bytes.
+/// If there is no memory for a copy of the bytes.
 fn have_same_bytes<A: Allocator + Copy>(
     memory: &Memory<A>,
     other: &Memory<A>,

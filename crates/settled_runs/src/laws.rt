@@ -44,7 +44,7 @@ pub fn a_contested_byte_makes_two_machines()
         → (one two : MachineState) × RunsTo (k + 1) m one × RunsTo (k + 1) m two × (one ≢ two) }
 {}
 
-/// So a run of so many supersteps is settled just where, after each number of them, every choice of orders has come to the same machine.
+/// So a run of so many supersteps is settled exactly if, after each number of them, every choice of orders has come to the same machine.
 pub fn only_settled_runs_are_the_same_in_every_order()
     ensures { (k : ℕ) (m : MachineState) → IsSoundMachine m
         → IsSettledRun k m ↔ ((j : ℕ) (n : MachineState) → j ≤ k → RunsTo j m n → n ≡ iterate superstep j m) }

@@ -1,8 +1,8 @@
 //! Bytes that are cheap to clone.
 //!
-//! A [`SharedBytes`] is made once and never changes, so that whoever wants the same bytes gets a clone of it. Up to 22 bytes stand in
-//! the value itself, and neither making nor cloning it takes memory then; more of them stand in memory that all clones share.
-//! Contracts see it as the list of its bytes. That clones of the same bytes share memory is not proved.
+//! A [`SharedBytes`] is made once and never changes. To use the same bytes, take a clone of it. Up to 22 bytes are kept in the value
+//! itself, and then neither making nor cloning it takes memory. More bytes are kept in memory that all clones share. Contracts see it as
+//! the list of its bytes. That clones of the same bytes share memory is not proved.
 #![tactic(auto)]
 
 ghost use Rattle.std.specs.Prelude.{◌≡◌, ◌+◌, ◌≤◌, ◌==◌, ◌++◌, [], length, take, IfOk, IfSome, IsOk, OnOk, OnErr};
@@ -55,7 +55,7 @@ impl<A: Allocator + Copy> SharedBytes<A> {
     /// A copy of `bytes`.
     ///
     /// # Errors
-    /// Where memory is refused, which up to 22 bytes do not take.
+    /// If memory is refused, which up to 22 bytes do not take.
     pub fn from_slice(alloc: A, bytes: &[u8]) -> Result<Self, AllocError>
         ensures ok { IfOk result (λ b. b ≡ bytes.now) }
         ensures few { length bytes.now ≤ 22 → IsOk result }
@@ -67,10 +67,10 @@ impl<A: Allocator + Copy> SharedBytes<A> {
         Ok(SharedBytes { held })
     }
 
-    /// The bytes of a vector, which keep their memory where they are more than 22.
+    /// The bytes of a vector, which keep their memory if they are more than 22.
     ///
     /// # Errors
-    /// Where memory is refused, which up to 22 bytes do not take.
+    /// If memory is refused, which up to 22 bytes do not take.
     pub fn from_vec(bytes: Vec<u8, A>) -> Result<Self, AllocError>
         ensures ok { IfOk result (λ b. b ≡ bytes.items) }
         ensures few { length bytes.items ≤ 22 → IsOk result }
@@ -103,7 +103,7 @@ impl<A: Allocator> SharedBytes<A> {
         }
     }
 
-    /// The bytes of two slices, those of the second behind those of the first: at most 22. No memory is taken.
+    /// The bytes of two slices, those of the second after those of the first: at most 22. No memory is taken.
     pub fn few_of_two(first: &[u8], second: &[u8]) -> Self
         requires { length first.now + length second.now ≤ 22 }
         ensures { result ≡ first.now ++ second.now }
@@ -135,7 +135,7 @@ impl<A: Allocator> SharedBytes<A> {
     /// The same bytes. No memory is taken.
     ///
     /// # Errors
-    /// Where they have too many clones.
+    /// If they have too many clones.
     pub fn try_clone(&self) -> Result<Self, AllocError>
         ensures ok { IfOk result (λ b. b ≡ self.now) }
         ensures few { length self.now ≤ 22 → IsOk result }
@@ -150,7 +150,7 @@ impl<A: Allocator> SharedBytes<A> {
     /// Becomes the same bytes as `source`, as `clone_from` of Rust's `Clone`. No memory is taken.
     ///
     /// # Errors
-    /// Where `source` has too many clones. Nothing has changed then.
+    /// If `source` has too many clones. Nothing has changed then.
     // For speed: few bytes go straight from one place to the other, as they do not where a clone is made first and then moved.
     #[inline]
     pub fn try_clone_from(&mut self, source: &Self) -> Result<(), AllocError>
@@ -177,7 +177,7 @@ impl<A: Allocator> SharedBytes<A> {
         }
     }
 
-    /// Where they are at most 16, sixteen bytes of which they are the first, and how many they are.
+    /// If they are at most 16, sixteen bytes of which they are the first, and how many they are.
     // For speed: a value of a known size is copied without a call, and by whoever gets it, so that it is copied once.
     #[inline(always)]
     pub fn within_16(&self) -> Option<(&[u8; 16], u32)>

@@ -10,9 +10,9 @@ ghost use Rattle.machine_core.specs.Sound.{IsSoundMachine};
 ghost use Rattle.machine_core.specs.Turn.{cost_row, superstep, with_phases};
 ghost use Rattle.step_counts.specs.Counts.{addresses, count_in, AllCountsAreTicks, CountsAreTicks, HasBegun, HasWordPcs};
 
-/// The counts of a rank in a superstep add up to its ticks in that superstep: its local part makes a step for each tick, and the counts
-/// of all addresses, up to any bound that is above those of the steps, are together as many as the steps. An address of a step is a word,
-/// below 2^32, where pc is one at first. It is one as a machine begins, since the entry of an image is one, and stays one from superstep to
+/// The counts of a rank in a superstep add up to its ticks in that superstep: its local part makes a step for each tick, and the counts of
+/// all addresses, up to any bound that is above those of the steps, are together as many as the steps. An address of a step is a word,
+/// below 2^32, if pc is one at first. It is one as a machine begins, since the entry of an image is one, and stays one from superstep to
 /// superstep; so the counts of all words add up to the ticks.
 ///
 /// [`run`](crate::run) ensures this sum for each superstep of its machine, under no condition.

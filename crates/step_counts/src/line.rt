@@ -1,4 +1,4 @@
-//! What a line says, and its text.
+//! A line of the counts: its values and its text.
 
 ghost use Rattle.std.specs.Prelude.{◌≡◌, ◌++◌, OnOk, string_bytes};
 ghost use Rattle.step_counts.specs.Counts.{line_of};

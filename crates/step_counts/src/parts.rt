@@ -21,7 +21,7 @@ const MANY: usize = 256;
 /// Makes the local part of a rank, and counts its steps.
 ///
 /// # Errors
-/// Where memory is refused in a step. The steps before it are made.
+/// If memory is refused in a step. The steps before it are made.
 fn count_steps<A: Allocator + Copy>(
     machine: &mut Machine<A>,
     rank: u32,
@@ -48,7 +48,7 @@ fn count_steps<A: Allocator + Copy>(
 /// Makes the local part of a rank, and appends the lines of its counts.
 ///
 /// # Errors
-/// Where memory is refused. The steps before that are made.
+/// If memory is refused. The steps before that are made.
 fn count_part<A: Allocator + Copy>(
     machine: &mut Machine<A>,
     rank: u32,
@@ -71,7 +71,7 @@ fn count_part<A: Allocator + Copy>(
 /// Makes the local parts of a superstep, rank by rank, and appends the lines of their counts.
 ///
 /// # Errors
-/// Where memory is refused. The steps before that are made.
+/// If memory is refused. The steps before that are made.
 pub(crate) fn count_parts<A: Allocator + Copy>(
     machine: &mut Machine<A>,
     table: &mut Table<A>,

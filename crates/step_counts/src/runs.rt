@@ -1,4 +1,4 @@
-//! A run whose steps are counted.
+//! A run that counts its steps.
 
 ghost use Rattle.std.specs.Prelude.{◌≡◌, ℕ, IfOk, OnErr, OnOk, string_bytes};
 ghost use Rattle.std.specs.Fn.{iterate};
@@ -18,7 +18,7 @@ const HEADER: &str = "superstep,rank,address,count\n";
 /// superstep the counts of a rank add up to its ticks.
 ///
 /// # Errors
-/// Where memory is refused. What was made before it stands, and any run can go on with the machine.
+/// If memory is refused. What was made before it stands, and any run can go on with the machine.
 pub fn run<A: Allocator + Copy>(alloc: A, machine: &mut Machine<A>) -> Result<String<A>, AllocError>
     ensures ok { OnOk result (IsRunToEnd machine.old machine.new) }
     ensures counts { IfOk result (λ text. string_bytes text ≡ counts_of machine.old) }

@@ -52,7 +52,7 @@ impl<A: Allocator> Table<A> {
     /// Counts one more step at an address. At addresses past the memory there is one step at most.
     ///
     /// # Errors
-    /// Where memory is refused.
+    /// If memory is refused.
     // For speed: nearly each address lies between two at which steps were made, where one cell is all that changes.
     #[inline]
     pub fn add(&mut self, address: u32) -> Result<(), AllocError>
@@ -95,7 +95,7 @@ impl<A: Allocator> Table<A> {
     /// Makes sure that an address of the memory has a cell.
     ///
     /// # Errors
-    /// Where memory is refused.
+    /// If memory is refused.
     #[inline]
     fn reach(&mut self, at: usize) -> Result<(), AllocError>
         requires { at < self.old.memory }
@@ -113,7 +113,7 @@ impl<A: Allocator> Table<A> {
     /// Appends the lines of the addresses at which steps were made.
     ///
     /// # Errors
-    /// Where memory is refused.
+    /// If memory is refused.
     pub fn write_lines(
         &self,
         superstep: u64,

@@ -1,4 +1,4 @@
-//! Why local parts or a run did not come to their end.
+//! Why a run or its local parts did not finish.
 
 ghost use Rattle.std.specs.Prelude.{◌≡◌, ◌↔◌, ◌||◌, IsOk, IsErrOf, IsTrue, IsFalse, is_err};
 
@@ -78,8 +78,8 @@ impl Refused {
     /// What a call answers to which this was refused.
     ///
     /// # Errors
-    /// [`PoolError::NoWorker`] wherever a thread could not be started, be memory refused besides or not, and [`PoolError::NoMemory`]
-    /// where memory alone was refused.
+    /// [`PoolError::NoWorker`] wherever a thread could not be started, be memory refused besides or not, and [`PoolError::NoMemory`] if
+    /// memory alone was refused.
     pub(crate) fn answer(self) -> Result<(), PoolError>
         ensures ok { IsOk result ↔ (IsFalse self.thread × IsFalse self.memory) }
         ensures no_worker { IsErrOf result PoolError.NoWorker ↔ IsTrue self.thread }

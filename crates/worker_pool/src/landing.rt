@@ -1,4 +1,4 @@
-//! The exchange of a turn, whose stages one thread makes for each node: nodes are prepared for their parts, and then these land.
+//! The exchange of a turn in several threads: the nodes are prepared for their parts, and then the parts land.
 
 ghost use Rattle.std.specs.Prelude.{◌≡◌, ◌+◌, ◌-◌, ◌++◌, ◌<◌, ◌≤◌, ◌&&◌, ◌||◌, IfOk, IfErr, IsTrue, IsFalse, length, vec_len, vec_capacity};
 ghost use Rattle.std.specs.Thread.{IsSend, IsSync};
@@ -61,8 +61,8 @@ pub(crate) fn bytes_of<A: Allocator + Copy>(parts: &[Part<A>]) -> u64 {
     bytes
 }
 
-/// Makes a stage of each node and the part at its place, in so many threads, this one among them. Each takes a run of the row, and this
-/// one starts all others, from the last run on: where two threads start others at once, these may be put on the same processor.
+/// Makes a stage of each node and the part at its place, in so many threads, this one among them. Each takes a run of the row, and this one
+/// starts all others, from the last run on: if two threads start others at once, these may be put on the same processor.
 ///
 /// A run whose thread cannot be started is made here as it is, and so is a share for whose last run there is no room of its own. So the
 /// stage is made of each node, whatever threads and room are refused.
@@ -91,7 +91,7 @@ pub(crate) fn make_in_threads<R: Threads + Wait + Sync, A: Allocator + Copy + Se
 }
 
 /// Makes a stage of a share whose last run stands apart, of this run in a thread of its own and of the rest in so many threads together
-/// with that. Where it cannot be started, the run is made here as it is, when the rest is.
+/// with that. If it cannot be started, the run is made here as it is, when the rest is.
 #[cycle(threads)]
 fn make_beside<R: Threads + Wait + Sync, A: Allocator + Copy + Send + Sync>(
     rt: &R,
@@ -156,7 +156,7 @@ fn start_of_last_run(nodes: usize, runs: usize) -> usize
 /// Splits a share before the node at a place.
 ///
 /// # Errors
-/// Where there is no room for what stands from there on. The share is whole then.
+/// If there is no room for what stands from there on. The share is whole then.
 fn split<A: Allocator + Copy>(share: Share<A>, end: usize) -> Result<(Share<A>, Share<A>), Share<A>>
     requires nodes { end ≤ vec_len share.nodes }
     requires parts { end ≤ vec_len share.parts }
@@ -190,7 +190,7 @@ fn split<A: Allocator + Copy>(share: Share<A>, end: usize) -> Result<(Share<A>, 
     }
 }
 
-/// Puts elements behind others, among which there is room for them.
+/// Puts elements after others, among which there is room for them.
 fn joined<T: Drop, A: Allocator>(mut first: Vec<T, A>, mut second: Vec<T, A>) -> Vec<T, A>
     requires { vec_len first + vec_len second ≤ vec_capacity first }
     ensures items { result.items ≡ first.items ++ second.items }
@@ -202,7 +202,7 @@ fn joined<T: Drop, A: Allocator>(mut first: Vec<T, A>, mut second: Vec<T, A>) ->
     first
 }
 
-/// Puts what was made of the second share behind what was made of the first, in which there is room for it.
+/// Puts what was made of the second share after what was made of the first, in which there is room for it.
 fn put_together<A: Allocator>(first: Done<A>, second: Done<A>) -> Done<A>
     requires nodes { vec_len first.share.nodes + vec_len second.share.nodes ≤ vec_capacity first.share.nodes }
     requires parts { vec_len first.share.parts + vec_len second.share.parts ≤ vec_capacity first.share.parts }
@@ -287,7 +287,7 @@ fn prepare_here<A: Allocator + Copy>(share: Share<A>) -> Done<A>
     }
 }
 
-/// Lands each part in the node at its place. No memory is taken; what the parts hold is let go here, where it is in some thread's share.
+/// Lands each part in the node at its place. No memory is taken; what the parts hold is let go here, if it is in some thread's share.
 fn land_here<A: Allocator + Copy>(share: Share<A>) -> Done<A>
     requires { IsReadyFor Stage.Land share.parts.items share.nodes.items }
     ensures done { IsDone Stage.Land share.parts.items share.nodes.items result.share.parts.items result.share.nodes.items result.complete }

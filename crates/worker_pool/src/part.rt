@@ -1,4 +1,4 @@
-//! Work on the nodes of a row, each of which is taken through its local part of the superstep.
+//! Work on the nodes of a row: each is taken through its local part of the superstep.
 
 ghost use Rattle.std.specs.Prelude.{◌≡◌, ◌<◌, ℕ, IfOk, OnOk, OnErr, IsTrue, IsFalse, false};
 ghost use Rattle.std.specs.Thread.{IsSend, IsSync};
@@ -20,8 +20,8 @@ use std::thread::Threads;
 /// The most steps that a node may make, whatever its limit.
 const MOST_STEPS: u64 = 1 << 40;
 
-/// After how many steps of a node the bytes that it has asked for are first looked at, where its share is small; after these, each time
-/// that its steps have doubled. Where it is large, that is after each call.
+/// After how many steps of a node the bytes that it has asked for are first looked at, if its share is small; after these, each time that
+/// its steps have doubled. If it is large, that is after each call.
 const FIRST_LOOK: u64 = 256;
 
 /// From how many steps on a share is large: some more do not matter then, and none of them is counted by itself.
@@ -30,8 +30,8 @@ const LARGE: u64 = 16_384;
 /// How many steps are allowed beyond a large share. About half of them are made.
 const SPARE: u64 = 4_096;
 
-/// How much of a superstep this thread makes by itself before others are started: so many steps, and fewer where the nodes have asked
-/// for so many bytes before that.
+/// How much of a superstep this thread makes by itself before others are started: so many steps, and fewer if the nodes have asked for so
+/// many bytes before that.
 #[derive(Clone, Copy)]
 pub(crate) struct FirstShare {
     /// The most steps, of all nodes together.
@@ -80,8 +80,8 @@ fn some_run<A: Allocator>(nodes: &[Node<A>]) -> bool {
     nodes.iter().any(|node| node.state().is_running())
 }
 
-/// Lets so many workers share out the nodes by a table, slice by slice, this thread among them. Where no node runs, or there is no
-/// room for the table, the nodes stay as they are.
+/// Lets so many workers share out the nodes by a table, slice by slice, this thread among them. If no node runs, or there is no room for
+/// the table, the nodes stay as they are.
 fn share_out<R: Threads + Wait + Sync, A: Allocator + Copy + Send + Sync, G: Gate<A> + Sync>(
     rt: &R,
     work: &Work<'_, G>,
@@ -132,8 +132,8 @@ fn work_in_threads<R: Threads + Wait + Sync, A: Allocator + Copy + Send + Sync, 
     work_beside(rt, work, workers, place, other)
 }
 
-/// Works at the table in so many threads, the last of which has a place of its own there. Where it cannot be started, there are
-/// fewer workers, who take its nodes too.
+/// Works at the table in so many threads, the last of which has a place of its own there. If it cannot be started, there are fewer workers,
+/// who take its nodes too.
 #[cycle(workers)]
 fn work_beside<R: Threads + Wait + Sync, A: Allocator + Copy + Send + Sync, G: Gate<A> + Sync>(
     rt: &R,
@@ -189,7 +189,7 @@ fn begin<A: Allocator + Copy>(
 /// share.
 ///
 /// # Errors
-/// Where memory is refused in a step. The steps before it are made.
+/// If memory is refused in a step. The steps before it are made.
 fn begin_node<A: Allocator + Copy>(
     input: &[u8],
     share: FirstShare,
@@ -208,7 +208,7 @@ fn begin_node<A: Allocator + Copy>(
 /// Makes some steps of a node that runs, of a share of which so many are made and so many left. How many.
 ///
 /// # Errors
-/// Where memory is refused in a step. The steps before it are made.
+/// If memory is refused in a step. The steps before it are made.
 fn some_steps<A: Allocator + Copy>(
     input: &[u8],
     made: u64,
@@ -244,7 +244,7 @@ fn finish<A: Allocator + Copy>(input: &[u8], mut nodes: Vec<Node<A>, A>) -> Work
 /// Takes a node to the end of its local part.
 ///
 /// # Errors
-/// Where memory is refused in a step. The steps before it are made.
+/// If memory is refused in a step. The steps before it are made.
 fn finish_node<A: Allocator + Copy>(input: &[u8], node: &mut Node<A>) -> Result<(), AllocError>
     ensures ok { OnOk result (is_running node.new.node.state ≡ false) }
     ensures stepped { (k : ℕ) × (node.new.node ≡ local_steps input.now k node.old.node) }

@@ -78,7 +78,7 @@ impl Team<'static, OpenGate> {
 /// What came of a machine's turn.
 #[derive(Clone, Copy)]
 struct Turned {
-    /// Whether it was made, and whole. It was not where memory was refused before a part landed, and then nothing has changed.
+    /// Whether it was made, and whole. It was not if memory was refused before a part landed, and then nothing has changed.
     is_made: bool,
     /// What was refused. A turn is made in spite of threads and room that are refused for its exchange.
     refused: Refused,
@@ -118,9 +118,9 @@ impl Turned {
 ///
 /// # Errors
 /// The first that applies of [`PoolError::BadWorkers`] and [`PoolError::BadSlice`], at which nothing has changed. Then
-/// [`PoolError::NoWorker`] where a thread could not be started, be memory refused besides or not, else [`PoolError::NoMemory`] where
-/// memory was refused, for the table or in a step. At both the nodes keep the steps that they made, and a call made again leaves what
-/// this one would have left.
+/// [`PoolError::NoWorker`] if a thread could not be started, be memory refused besides or not, else [`PoolError::NoMemory`] if memory was
+/// refused, for the table or in a step. At both the nodes keep the steps that they made, and a call made again leaves what this one would
+/// have left.
 pub fn run_phase<R: Threads + Wait + Sync, A: Allocator + Copy + Send + Sync, G: Gate<A> + Sync>(
     rt: &R,
     machine: &mut Machine<A>,
@@ -152,9 +152,9 @@ pub fn run_phase_sparing<R: Threads + Wait + Sync, A: Allocator + Copy + Send + 
 /// prepared and parts land in so many threads too, without calls of the gate. After the outcome nothing is left to run.
 ///
 /// # Errors
-/// As [`run_phase`]. [`PoolError::NoWorker`] is also answered where a thread could not be started for an exchange, be memory refused in
-/// the turn besides or not, and else [`PoolError::NoMemory`] where memory was refused in it. A turn for which a node was refused memory is
-/// not made. Where no more than a thread or room was refused for an exchange, the turn is whole, and the nodes make their next local parts
+/// As [`run_phase`]. [`PoolError::NoWorker`] is also answered if a thread could not be started for an exchange, be memory refused in the
+/// turn besides or not, and otherwise [`PoolError::NoMemory`] if memory was refused in it. A turn for which a node was refused memory is
+/// not made. If no more than a thread or room was refused for an exchange, the turn is whole, and the nodes make their next local parts
 /// before that is answered. No turn is made any more; the steps and turns before stand, and a call made again leaves what this one would
 /// have left.
 pub fn run<R: Threads + Wait + Sync, A: Allocator + Copy + Send + Sync, G: Gate<A> + Sync>(
@@ -169,9 +169,9 @@ pub fn run<R: Threads + Wait + Sync, A: Allocator + Copy + Send + Sync, G: Gate<
     run_with(rt, machine, &Team::gated(workers, slice, gate))
 }
 
-/// As [`run`], with an open gate, but starts threads only for the work that pays for them: first the caller's thread makes some
-/// steps of each node, or fewer where they ask for many bytes, and only where a node still runs then do the workers share out the nodes;
-/// and for an exchange several threads work only where there are bytes enough. One worker needs no table.
+/// As [`run`], with an open gate, but starts threads only for the work that pays for them: first the caller's thread makes some steps of
+/// each node, or fewer if they ask for many bytes, and only if a node still runs then do the workers share out the nodes; and for an
+/// exchange several threads work only if there are bytes enough. One worker needs no table.
 ///
 /// # Errors
 /// As [`run`].
@@ -186,7 +186,7 @@ pub fn run_sparing<R: Threads + Wait + Sync, A: Allocator + Copy + Send + Sync>(
     run_with(rt, machine, &Team::sparing(workers, slice))
 }
 
-/// Takes the nodes of a machine through their local parts with a team, where it is not over.
+/// Takes the nodes of a machine through their local parts with a team, if it is not over.
 fn run_phase_with<R: Threads + Wait + Sync, A: Allocator + Copy + Send + Sync, G: Gate<A> + Sync>(
     rt: &R,
     machine: &mut Machine<A>,
@@ -317,8 +317,8 @@ fn turn_machine<R: Threads + Wait + Sync, A: Allocator + Copy + Send + Sync, G: 
     }
 }
 
-/// In how many threads nodes are prepared for these parts, and then the parts land: as many as there are workers and parts, or one, where
-/// the bytes do not pay for others.
+/// In how many threads nodes are prepared for these parts, and then the parts land: as many as there are workers and parts, or one, if the
+/// bytes do not pay for others.
 fn landing_threads<A: Allocator + Copy, G>(team: &Team<'_, G>, parts: &[Part<A>]) -> usize
     ensures workers { result ≤ team.now.workers }
     ensures parts { result ≤ length parts.now }

@@ -1,4 +1,4 @@
-An address that is no multiple of 4 is the first fault, for SC too where nothing is reserved. Then comes a word outside of the memory: of LR it is
+An address that is not a multiple of 4 is the first fault, for SC too where nothing is reserved. Then comes a word outside of the memory: of LR it is
 a fault of a load, and of the others of a store. Behind the last of these operations, which is in the memory, there is no code.
 
   $ fault() { printf 'li t1,%s\nli t0,9\n.word %s\n' $1 $2 >fault.s; bspemu run fault.s --format asm --atomic --memory 4096 --report | tail -n 1; }

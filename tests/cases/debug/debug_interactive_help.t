@@ -10,16 +10,16 @@ Help tells how the lines are spelled and what they do: all of them, or those wit
   > help Step
   > END
   break RANK ADDR, or break superstep K: sets a point, at which go stops
-  clear RANK ADDR, or clear superstep K: takes a point away
+  clear RANK ADDR, or clear superstep K: removes a point
   points: the points that are set
-  go, or with --framed go RANK COUNT: goes on to a point or to the outcome; a rank alone, by COUNT steps at most
+  go, or with --framed go RANK COUNT: runs on to a point or to the outcome; a rank alone, by COUNT steps at most
   step, or step RANK [COUNT]: the next instruction of all; COUNT of a rank, or one
   over RANK: an instruction of a rank, with all of a function that it calls
-  phase: every rank goes on until it stops by itself
+  phase: runs every rank until it stops by itself
   turn: ends the superstep, if no rank runs any more
   where [RANK]: where the ranks are, or one
   regs RANK: the registers of a rank
-  fregs RANK: the registers of floating point of a rank, and fcsr
+  fregs RANK: the floating-point registers of a rank, and fcsr
   list RANK ADDR N: N instructions from ADDR on
   bytes RANK ADDR LEN: LEN bytes of memory
   words RANK ADDR N: N words of four bytes
@@ -30,7 +30,7 @@ Help tells how the lines are spelled and what they do: all of them, or those wit
   keep: keeps the state under the next number
   kept: the states that are kept
   back N: goes back to a state that is kept
-  forget N: keeps a state no longer
+  forget N: drops a kept state
   costs, or with --framed costs [FROM]: what the supersteps that are over cost
   output, or with --framed output [FROM]: what was written in the supersteps that are over
   nodes, with --framed alone: how many ranks there are, and the other settings
@@ -38,7 +38,7 @@ Help tells how the lines are spelled and what they do: all of them, or those wit
   quit: ends the session
   step, or step RANK [COUNT]: the next instruction of all; COUNT of a rank, or one
   nodes, with --framed alone: how many ranks there are, and the other settings
-  refused: BadCommand: there is no such line; help tells the lines
+  refused: BadCommand: there is no such line; help lists the lines
   refused: BadCommand: the line is help [LINE]
   refused: BadCommand: the line is help [LINE]
-  refused: BadCommand: there is no such line; help tells the lines
+  refused: BadCommand: there is no such line; help lists the lines

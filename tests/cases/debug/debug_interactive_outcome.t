@@ -78,12 +78,12 @@ Of the nodes it tells the first 16, and how many more there are.
   rank 15 pc 00000014 superstep 0 state ended
   $ printf 'go\n' | bspemu debug stuck.s --format asm --nodes 17 --interactive | tail -n 2
   rank 15 pc 00000014 superstep 0 state ended
-  and 1 more: where tells all
+  and 1 more: where shows all
   $ printf 'go\n' | bspemu debug stuck.s --format asm --nodes 1024 --interactive > told
   $ wc -l < told
   18
   $ tail -n 1 told
-  and 1008 more: where tells all
+  and 1008 more: where shows all
 
 The nodes of an exchange that is refused wait for its end; where all have ended, that is all that is told.
 

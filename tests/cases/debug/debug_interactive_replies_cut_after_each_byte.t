@@ -28,7 +28,7 @@
   superstep 0: w 10 h 0 last
   total 10
   012
-  refused: BadCommand: there is no such line; help tells the lines
+  refused: BadCommand: there is no such line; help lists the lines
   $ bspemu debug examples/ranks.raw --format raw --nodes 3 --ledger 1 --interactive < lines > whole
   $ for room in $(seq 0 $(($(wc -c < whole) - 1))); do
   >     with-room "$room" bspemu debug examples/ranks.raw --format raw --nodes 3 --ledger 1 --interactive < lines > cut

@@ -25,8 +25,8 @@ A dialogue says how a line is spelled that is none, by its first word; a framed 
   refused: BadCommand: the line is regs RANK
   refused: BadCommand: the line is nodes, with --framed alone
   refused: BadCommand: the line is costs, or with --framed costs [FROM]
-  refused: BadCommand: there is no such line; help tells the lines
-  refused: BadCommand: there is no such line; help tells the lines
+  refused: BadCommand: there is no such line; help lists the lines
+  refused: BadCommand: there is no such line; help lists the lines
   $ bspemu debug examples/ranks.raw --format raw --nodes 3 < lines | sort | uniq -c
        12 refused: BadCommand
   $ bspemu debug examples/ranks.raw --format raw --nodes 3 --framed < lines | sed -n 1,4p

@@ -30,7 +30,7 @@ kind of session. With it they can be looked at where the run is over, and go bac
   refused: NoFloatUnit: nodes have one with --float
   refused: BadCommand: the line is fregs RANK
   refused: BadCommand: the line is fregs RANK
-  refused: BadCommand: there is no such line; help tells the lines
+  refused: BadCommand: there is no such line; help lists the lines
   $ bspemu debug programs/each_node_has_a_unit_of_its_own.s --format asm --float --nodes 2 --interactive <<'END' | grep -e fcsr -e ft0 -e ^ok -e ^kept -e ^ended
   > keep
   > break superstep 1

@@ -39,16 +39,16 @@ What does not go together is refused, and so are objects of another ABI, instruc
 libraries.
 
   $ flags -march=rv32imc -mabi=ilp32d
-  bspcc: -march=rv32imc goes with -mabi=ilp32, and not with -mabi=ilp32d: leave one of the two out (stderr)
+  bspcc: -march=rv32imc needs -mabi=ilp32, not -mabi=ilp32d: leave out one of the two (stderr)
   [1]
   $ flags -march=rv32imfdc -mabi=ilp32
-  bspcc: -march=rv32imfdc goes with -mabi=ilp32d, and not with -mabi=ilp32: leave one of the two out (stderr)
+  bspcc: -march=rv32imfdc needs -mabi=ilp32d, not -mabi=ilp32: leave out one of the two (stderr)
   [1]
   $ flags -march=rv32gcv
-  bspcc: -march=rv32imafdcv has instructions of V, which nodes do not have: give rv32imfdc, or rv32imc for nodes without units of floating point (stderr)
+  bspcc: -march=rv32imafdcv has instructions of V, which nodes do not have: use rv32imfdc, or rv32imc for nodes without floating-point units (stderr)
   [1]
   $ flags -march=rv32i2p1m2p0a2p1v1p0
-  bspcc: -march=rv32i2p1m2p0a2p1v1p0 has instructions of V, which nodes do not have: give rv32imfdc, or rv32imc for nodes without units of floating point (stderr)
+  bspcc: -march=rv32i2p1m2p0a2p1v1p0 has instructions of V, which nodes do not have: use rv32imfdc, or rv32imc for nodes without floating-point units (stderr)
   [1]
   $ flags -march=rv32imc_zifencei
   bspcc: GCC has no libraries for -march=rv32imc_zifencei: give rv32imfdc, or rv32imc for nodes without units of floating point (stderr)
@@ -79,5 +79,5 @@ What is of another machine is left out.
   bspcc: left out, since nodes have no use for it: -march=rv64gc -mabi=lp64d (stderr)
   $ { printf '\177ELF\002\001\001'; head -c 9 /dev/zero; printf '\001\000\076\000'; head -c 44 /dev/zero; } > other.o
   $ bspcc --small -o main.elf main.c other.o
-  bspcc: other.o was compiled for another machine: compile it anew by bspcc -c (stderr)
+  bspcc: other.o was compiled for another machine: compile it again with bspcc -c (stderr)
   [1]

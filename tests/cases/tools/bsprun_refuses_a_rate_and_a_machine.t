@@ -5,7 +5,7 @@
   bsprun: argument --rate: 'fast': the rate is a number of instructions a second from 1 to 1e18, as 1e9; bsprun --help lists the options (stderr)
   [1]
   $ bsprun --machine cm-5 examples/ranks.elf
-  bsprun: 'cm-5' is no machine that is known: t3e-2, * has them (stderr) (glob)
+  bsprun: 'cm-5' is not a known machine; these are: t3e-2, * has them (stderr) (glob)
   [1]
   $ echo 'mine 2 1e6 8 100' >own.txt
   $ BSP_MACHINES=own.txt bsprun --machine mine examples/ranks.elf

@@ -21,6 +21,6 @@ Of an instruction of floating point that has a rounding mode which there is not,
   bsprun: rank 0 stopped: fault IllegalInstruction (stderr)
   rank 0 stopped in superstep 0, after 1 instructions: fault IllegalInstruction (stderr)
     at   none.s:1 (stderr)
-    why  the word at 0x0 is no instruction that a node has (stderr)
+    why  the word at 0x0 is not an instruction that a node has (stderr)
     gdb  bspgdb --float none.s -- -ex continue (stderr)
   [2]

@@ -20,7 +20,7 @@ reads no time has no such line, and the emulator alone gives no clock.
   > END
   $ bsprun -n 2 --l 1000000 --rate 1e6 time.c
   1.00
-  bsprun: rank 0, superstep 0: the time is what the run has cost so far by the model, and no host's: a second is 1,000,000 instructions, a byte of h is 1 (--g), a superstep's end 1000000 (--l), and so 1 more rank (stderr)
+  bsprun: rank 0, superstep 0: bsp_time returns the cost of the run so far by the model, not the time of this computer: a second is 1,000,000 instructions, a byte of h is 1 (--g), a superstep's end 1000000 (--l); the same on 1 more rank (stderr)
   $ bsprun -n 2 --l 1000000 --rate 1e6 --workers 2 time.c 2>/dev/null
   1.00
   $ bsprun -n 2 --l 1000000 --rate 2e6 time.c 2>/dev/null

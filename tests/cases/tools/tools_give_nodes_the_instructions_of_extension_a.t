@@ -19,7 +19,7 @@ What bspemu asm makes does not say that it wants the instructions of extension A
   bsprun: rank 0 stopped: fault IllegalInstruction (stderr)
   rank 0 stopped in superstep 0, after 3 instructions: fault IllegalInstruction (stderr)
     at   address 0x8 (stderr)
-    why  the word at 0x8 is amoadd.w, of extension A, which nodes do not have: give --atomic (stderr)
+    why  the word at 0x8 is amoadd.w, an instruction of extension A, which these nodes do not have: run with --atomic (stderr)
     gdb  bspgdb seven.elf -- -ex continue (stderr)
   bsprun: run again with --strict to look for the usual mistakes (stderr)
   [2]
@@ -39,7 +39,7 @@ A misaligned address is told with the instruction.
   bsprun: rank 0 stopped: fault Misaligned (stderr)
   rank 0 stopped in superstep 0, after 3 instructions: fault Misaligned (stderr)
     at   odd.s:3 (stderr)
-    why  amoadd.w is of a word, and its address 0x42 is no multiple of 4 (stderr)
+    why  amoadd.w is of a word, and its address 0x42 is not a multiple of 4 (stderr)
     gdb  bspgdb --atomic odd.s -- -ex continue (stderr)
   [2]
 

@@ -20,7 +20,7 @@ instruction; --float gives the nodes units, and bspgdb and bspsweep have it too.
   bsprun: rank 0 stopped: fault IllegalInstruction (stderr)
   rank 0 stopped in superstep 0, after 2 instructions: fault IllegalInstruction (stderr)
     at   address 0x4 (stderr)
-    why  the word at 0x4 is fcvt.d.w, of floating point, for which nodes have no units: give --float, or compile by bspcc -march=rv32imc, which does without (stderr)
+    why  the word at 0x4 is fcvt.d.w, a floating-point instruction, but these nodes have no floating-point unit: run with --float, or compile by bspcc -march=rv32imc, which does without (stderr)
     gdb  bspgdb six.elf -- -ex continue (stderr)
   bsprun: run again with --strict to look for the usual mistakes (stderr)
   [2]

@@ -5,7 +5,7 @@
   bspgdb: the following arguments are required: PROGRAM; bspgdb --help lists the options (stderr)
   [1]
   $ bspcc -o
-  bspcc: -o wants the name of a file (stderr)
+  bspcc: -o needs the name of a file (stderr)
   [1]
   $ bspcc -Wall -o program.elf -lm
   bspcc: there is nothing to compile: name a file, as FILE.c (stderr)

@@ -238,7 +238,7 @@ def who_wrote_goes_on(bench: Bench) -> None:
             for superstep, (last_writers.MOST_SUPERSTEPS, last_writers.MOST, last_writers.PIECE), lines in asked:
                 run.go([superstep])
                 told = wrote_sent.PastTeller(run, known, run.place(), run_places.never, line_answers.further, "sent", "").wrote(0, addr, 1)
-                expect(len(told) == 1 and re.search(f"; what was before is not looked at: ask again there: {lines} in a new", told[0]) is not None, told)
+                expect(len(told) == 1 and re.search(f"; what was before is not checked: ask again there: {lines} in a new", told[0]) is not None, told)
         finally:
             last_writers.MOST_SUPERSTEPS, last_writers.MOST, last_writers.PIECE = kept
             run.close()

@@ -139,7 +139,7 @@ def back_interrupted(bench: Bench) -> None:
 
 @case
 def back_refused(bench: Bench) -> None:
-    """Where there is no room for another process, a line says so, and the machine stands where it stood."""
+    """If there is no room for another process, a line says so, and the machine stands where it stood."""
     folder = pathlib.Path(tempfile.mkdtemp(dir=bench.folder))
     (folder / "bspemu").write_text(SCARCE)
     (folder / "bspemu").chmod(0o755)
@@ -149,7 +149,7 @@ def back_refused(bench: Bench) -> None:
     # A run that takes long has a second process beside it already.
     none = "bsptools.debug.runner.LONG=1000000"
     text = scarce.gdb(scarce.build("tests/tools/gdb/rounds.c"), [*commands, "stepi", "reverse-continue", "continue"], "-n", "2", numbers=none)
-    refused = "bspgdb: it stays where it is: the debugger has ended"
+    refused = "bspgdb: it does not move: the debugger has ended"
     # Forwards from there it goes by what the process itself has kept.
     in_order(text, refused, refused, "#0  note (round=0)", *["22\t{"] * 3, "23\t", NO_MORE, "hit Breakpoint 1, note")
     expect(text.count(refused) == 2, text)
@@ -333,7 +333,7 @@ class Noting(reversible_machine.Machine):
 
 @case
 def back_in_a_superstep_that_has_just_begun(bench: Bench) -> None:
-    """What is looked for there is found from states that were kept, without the run to there once more: also where a rank has not come to the
+    """What is looked for there is found from states that were kept, without the run to there once more: also if a rank has not come to the
     superstep's end, which might never come."""
     source = bench.folder / "many.s"
     source.write_text(MANY_SUPERSTEPS)

@@ -136,7 +136,7 @@ def short(tally: Tally, folder: pathlib.Path) -> None:
     bench.write("says.c", "#error No space left on device\n")
     for kind, name, status, wanted in (
         ("full", "says.c", NOT_ALL_RIGHT, ("does not compile", "says.c, line 1: #error No space left on device")),
-        ("kills", "right.c", NOT_MARKED, ("not judged", "it could not be tried: the run was killed, as where memory ran out")),
+        ("kills", "right.c", NOT_MARKED, ("not judged", "it could not be tried: the run was killed, perhaps because memory ran out")),
         ("full", "right.c", ALL_RIGHT, ("right", "")),
         ("is busy", "again.c", ALL_RIGHT, ("right", "")),
     ):
@@ -169,7 +169,7 @@ DODGES = PROGRAM % (FILLED, "if (__FILE__[0] == '/') abort();\nint is_filled = F
 
 
 def unsearched(tally: Tally, folder: pathlib.Path) -> None:
-    """A hand-in is not right because a search took too long, or because it does not run where it is tried."""
+    """A hand-in is not right because a search took too long, or because it does not run if it is tried."""
     bench = Bench(folder / "unsearched")
     bench.write("secret.txt", "it\n")
     bench.write("sheet.toml", SHEET.replace("seconds = 20", "seconds = 1\nportable = true"))

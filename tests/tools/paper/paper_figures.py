@@ -28,9 +28,9 @@ SUMS = {"one": (100, 40, 1), "two_&_%": (150, 16, 2), "three": (90, 100, 1)}
 MACHINE = {1: ("0", "0.5"), 2: ("3.5", "486"), 4: ("31/3", "679")}
 MISFITS: Dict[Tuple[str, ...], str] = {
     ("--curves", "c.svg", "--x", "M"): "the table has no column M: it has program, nodes, g, l, machine, N",
-    ("--curves", "c.svg", "--x", "program"): "--x program: 'one' is not a number; what fits: --x nodes or --x N",
-    ("--curves", "c.svg", "--x", "g"): "--x g: the prices of t3e are its own on each number of nodes; what fits:",
-    ("--curves", "c.svg", "--only", "nodes=2"): "all runs have nodes 2, but a line needs several; what fits: --x N",
+    ("--curves", "c.svg", "--x", "program"): "--x program: 'one' is not a number; use --x nodes or --x N",
+    ("--curves", "c.svg", "--x", "g"): "--x g: the prices of t3e differ for each number of nodes; use --x",
+    ("--curves", "c.svg", "--only", "nodes=2"): "all runs have nodes 2, but a line needs several; use --x N",
     ("--curves", "c.svg", "--by", "program"): "at nodes 1 a line has two values, those of g 1 and g none: give --by program,g, --panels g or --only g=1",
     ("--curves", "c.svg", "--panels", "nodes"): "nodes is on the axis, so it separates neither lines nor panels",
     ("--curves", "c.svg", "--only", "N=5"): "no run in it has N 5; there is N 1, 16",
@@ -161,7 +161,7 @@ def misfits(check: Check) -> None:
     one = "\n".join(it for it in table().splitlines() if ",4," not in it[:12] and ",1," not in it[:12])
     (check.folder / "one.csv").write_text(one + "\n")
     done = check.tool("bspplot", "one.csv", "--sweep", "s.svg")
-    line = "one.csv has no program on several numbers of nodes, over which --sweep and --compare draw lines; for --curves what fits: --x N"
+    line = "one.csv has no program on several numbers of nodes, over which --sweep and --compare draw lines; for --curves use --x N"
     check.expect("a sweep over one number of nodes", done.returncode == 1 and line in done.stderr, done)
 
 

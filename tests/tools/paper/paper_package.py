@@ -107,7 +107,7 @@ def imported(check: Check) -> None:
     again = [str(REPO / "bspsweep"), "--again", "sweep.csv.json", "--engine", "plain"]
     home = {**os.environ, "HOME": str(check.folder)}
     done = subprocess.run(again, cwd=check.folder, env=home, capture_output=True, text=True, check=False, timeout=SECONDS)
-    same = "6 of 6 runs" not in done.stderr and "3 of 3 runs were made before" in done.stderr and "the table is the same" in done.stderr
+    same = "6 of 6 runs" not in done.stderr and "3 of 3 runs were cached" in done.stderr and "the table is the same" in done.stderr
     check.expect("one store and one record with bspsweep", same, done.stderr)
 
 

@@ -75,7 +75,7 @@ def records(check: Check) -> None:
     check.expect("a record", right and "12.2" in record["compiler"]["version"] + "12.2" and len(record["images"]) == 2, record)
     done = check.tool("bspsweep", "--again", "table.csv.json", "--engine", "plain")
     right = done.returncode == 0 and done.stdout == table and done.stderr.endswith("bspsweep: the table is the same, byte for byte\n")
-    check.expect("the same table again", right and " was " not in done.stderr.replace("were made before", ""), done)
+    check.expect("the same table again", right and " was " not in done.stderr.replace("were cached", ""), done)
     source.write_text(SOURCE + "// the same\n")
     done = check.tool("bspsweep", "--again", "table.csv.json", "-o", "again.csv", "--engine", "plain")
     right = done.returncode == 0 and "bspsweep: programs: syncs.c: sha256 was " in done.stderr and "the table is the same" in done.stderr
@@ -108,7 +108,7 @@ def elsewhere(check: Check) -> None:
     shutil.copytree(one, other)
     again, there = ["--again", "table.csv.json", "--engine", "plain", "-o", "again.csv"], Check(other, check.tally)
     done = there.tool("bspsweep", *again)
-    lines = ["bspsweep: 5 of 5 runs were made before", "bspsweep: the table is the same, byte for byte"]
+    lines = ["bspsweep: 5 of 5 runs were cached", "bspsweep: the table is the same, byte for byte"]
     check.expect("the same folder elsewhere", done.stderr.splitlines() == lines, done.stderr)
     (other / "parts/my steps.h").write_text("#define STEPS (N + 1)\n")
     done = there.tool("bspsweep", *again)

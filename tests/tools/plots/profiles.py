@@ -47,7 +47,7 @@ DAMAGED: Dict[str, Tuple[Callable[[List[str]], List[str]], str]] = {
     "400 digits": (lambda lines: lines[:1] + [f"0,0,,{10**400},0,0,0,0,0,synced"] + lines[2:], "line 2: '1000"),
     "ticks that are infinite": (lambda lines: lines[:1] + ["0,0,,Infinity,0,0,0,0,0,synced"] + lines[2:], "line 2: 'Infinity'"),
     "a rank that is not there": (lambda lines: lines[:5] + ["1,7,1,,4,,,,,"] + lines[6:], "line 6: the transfer from rank 7 to rank 1"),
-    "a transfer to nobody": (lambda lines: lines[:5] + ["1,0,9,,4,,,,,"] + lines[6:], "line 6: '9' is no whole number up to 1"),
+    "a transfer to nobody": (lambda lines: lines[:5] + ["1,0,9,,4,,,,,"] + lines[6:], "line 6: '9' is not a whole number up to 1"),
     "a transfer of nothing": (lambda lines: lines[:5] + ["1,0,1,,0,,,,,"] + lines[6:], "line 6: a transfer has bytes, at least 1"),
     "a transfer twice": (lambda lines: lines[:6] + lines[5:], "line 7: the transfer from rank 0 to rank 1 is not in its place"),
     "a state that is none": (lambda lines: lines[:1] + [lines[1].replace("synced", "asleep")] + lines[2:], "line 2: 'asleep' is no state"),
@@ -79,18 +79,18 @@ REPORTS: Dict[str, Tuple[str, str, str, str]] = {
     "a number that is too great": ("json", '"w": 12', '"w": 1e400', "'inf' is no whole number"),
     "no list": ("json", '"supersteps": [', '"supersteps": 7, "others": [', "like a report, but is not"),
     "deep nesting": ("json", '"supersteps": [', '"supersteps": ' + "[" * 100_000, "like a report, but is not"),
-    "an outcome that is none": ("json", '"outcome": "ended"', '"outcome": "well"', "'well' is no outcome"),
+    "an outcome that is none": ("json", '"outcome": "ended"', '"outcome": "well"', "'well' is not an outcome"),
 }
 TABLES: Dict[str, Tuple[str, str, str]] = {
     "a total that is no sum": (",646,", ",645,", "line 2: the total 645 is not 636 + 1 * 4 + 2 * 3"),
     "no nodes": ("b.s,1,", "b.s,0,", "line 2: 0 nodes"),
-    "a price below 0": (",1,2,", ",1,-2,", "line 2: '-2' is no number as 4, 3.875 or 31/8"),
+    "a price below 0": (",1,2,", ",1,-2,", "line 2: '-2' is not a number such as 4, 3.875 or 31/8"),
     "a price with an exponent": (",1,2,", ",1,2e9,", "line 2: '2e9' is no number as"),
     "a price over nothing": (",1,2,", ",1,2/0,", "line 2: '2/0' is no number as"),
     "a column more": (",ended", ",ended,ended", "line 2: its columns are not those of the first line"),
     "a column less": (",646,ended", ",646", "line 2: its columns are not those of the first line"),
     "a column twice": (",input,args,", ",input,input,", "line 1: the table of a sweep has columns"),
-    "an outcome that is none": (",ended", ",well", "line 2: 'well' is no outcome"),
+    "an outcome that is none": (",ended", ",well", "line 2: 'well' is not an outcome"),
     "a field without an end": ("b.s,1,", '"' + "x" * 200_000, "a value is missing, or has another form"),
 }
 

@@ -152,10 +152,10 @@ def plain(check: Check) -> None:
     times = [path.stat().st_mtime_ns for path in (check.folder / "plain/runs").glob("*/run.json")]
     done = check.tool("bspsweep", "--engine", "plain", "--folder", "plain", *TWELVE)
     again = [path.stat().st_mtime_ns for path in (check.folder / "plain/runs").glob("*/run.json")]
-    check.expect("nothing is run again", sorted(times) == sorted(again) and "6 of 6 runs were made before" in done.stderr, done.stderr)
+    check.expect("nothing is run again", sorted(times) == sorted(again) and "6 of 6 runs were cached" in done.stderr, done.stderr)
     check.expect("the same table from what is kept", done.stdout == (check.folder / "plain.csv").read_text(), done.stdout)
     done = check.tool("bspsweep", "--engine", "plain", "--folder", "plain", "--nodes", "2,3,4", *PROGRAMS)
-    check.expect("two nodes more", "4 of 6 runs were made before" in done.stderr and "2 of 2 runs done" in done.stderr, done.stderr)
+    check.expect("two nodes more", "4 of 6 runs were cached" in done.stderr and "2 of 2 runs done" in done.stderr, done.stderr)
 
 
 def outcomes(text: str) -> List[str]:
@@ -183,7 +183,7 @@ def missing(check: Check) -> None:
 
 
 def uncompiled(check: Check) -> None:
-    """A program that is not compiled by one choice of its constants is told, and the others are run; where none is, there is no table."""
+    """A program that is not compiled by one choice of its constants is told, and the others are run; if none is, there is no table."""
     (check.folder / "half.c").write_text("#if N > 1\nbroken\n#endif\nint main(void) { return 0; }\n")
     words = ["--engine", "plain", "--folder", "kept", "half.c"]
     done = check.tool("bspsweep", *words, "--define", "N=2,1")
@@ -233,7 +233,7 @@ def by_script(check: Check, text: str, here: cluster.Cluster) -> None:
     check.expect("a script for sbatch", begun.returncode == 0, done.stdout + begun.stderr)
     becomes_true(lambda: len(list((check.folder / "by-hand/runs").glob("*/run.json"))) == 6)
     done = check.tool("bspsweep", *words)
-    right = done.stdout == text and "6 of 6 runs were made before" in done.stderr
+    right = done.stdout == text and "6 of 6 runs were cached" in done.stderr
     check.expect("its collecting step", right, done.stderr)
 
 
@@ -274,7 +274,7 @@ def broken_off(
         becomes_true(lambda: not where())
     made = len(list((check.folder / folder / "runs").glob("*/run.json")))
     done = check.tool("bspsweep", *words, "--folder", folder, *TWELVE, environment=environment)
-    before = f"{made} of 6 runs {'was' if made == 1 else 'were'} made before"
+    before = f"{made} of 6 runs {'was' if made == 1 else 'were'} cached"
     right = 0 < made < 6 and done.stdout == text and before in done.stderr
     check.expect(f"a sweep by {name} that is gone on with", right, f"{made} {done.stderr}")
     return seen
@@ -325,7 +325,7 @@ def damaged(check: Check) -> None:
 
 
 def forged(check: Check) -> None:
-    """What was kept with another key is told, and made again; no ticket is left where all is made; and without a folder for a key, a line says
+    """What was kept with another key is told, and made again; no ticket is left if all is made; and without a folder for a key, a line says
     so, and there is no script that nobody could collect."""
     words = ["--engine", "plain", "--folder", "forged", "--nodes", "2", PROGRAMS[0]]
     text = check.tool("bspsweep", *words).stdout
@@ -333,7 +333,7 @@ def forged(check: Check) -> None:
     record = json.loads(path.read_text())["record"]
     sealed_results.keep(path, "0123456789abcdef:ticket", {**record, "costs": {**record["costs"], "w": 5}})
     done = check.tool("bspsweep", *words)
-    told = "bspsweep: 1 result in forged was not kept with your key, and was made again\n"
+    told = "bspsweep: 1 result in forged was not sealed with your key, and was made again\n"
     check.expect("a forged result", done.stdout == text and done.stderr.startswith(told), done)
     check.expect("no ticket is left", not list(path.parent.glob("*.ticket")), list(path.parent.iterdir()))
     homeless = {"HOME": None, "XDG_STATE_HOME": None}
@@ -392,7 +392,7 @@ def machines(check: Check) -> None:
     wanted = {("t3e (linear)", 2): ("3.5", "486"), ("t3e (linear)", 3): ("3.6875", "582.5")}
     check.expect("between two sizes of a machine, and named", found == wanted, done.stdout + done.stderr)
     refused = {
-        ("t3e-8,no",): "'no' is no machine that is known: t3e-2, t3e-4",
+        ("t3e-8,no",): "'no' is not a known machine; these are: t3e-2, t3e-4",
         ("t3e", "-n", "2,3"): "t3e has no prices on 3 nodes; it has them on 2, 4, 8, 16, 32, 64: give such numbers by --nodes, or add --interpolate linear",
         ("t3e", "-n", "1,2", "--interpolate", "linear"): "t3e has no prices on 1 node; it has them on 2, 4, 8, 16, 32, 64",
         ("t3e-8", "-n", "4"): "t3e-8 has no prices on 4 nodes; it has them on 8: give such numbers by --nodes, or add a line",
@@ -456,7 +456,7 @@ def hostile(check: Check) -> None:
     """Names of hosts that are commands for a shell are refused, and those of folders are none by Slurm either."""
     for host in ("a;touch pwned", "$(touch pwned)", "`touch pwned`", "one,-oProxyCommand=touch pwned", "x y", "", "@file", "..", "one,"):
         done = check.tool("bspsweep", f"--hosts={host}", "--folder", "kept", *TWO)
-        right = done.returncode == 1 and "is no name of a host" in done.stderr and done.stderr.count("\n") == 1
+        right = done.returncode == 1 and "is not the name of a host" in done.stderr and done.stderr.count("\n") == 1
         check.expect(f"the host {host}", right and not list(check.folder.iterdir()), done.stderr)
     stub = check.folder / "bin"
     stub.mkdir()

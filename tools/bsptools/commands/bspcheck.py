@@ -7,7 +7,7 @@ import re
 
 from .. import children, files, start, streams
 from ..marking import mark_table, sheet_reader, wanted_file
-from ..marking.marks import UNJUDGED, WRONG, Marks
+from ..marking.marks import EXPENSIVE, IDLE, NOT_PORTABLE, RACE, STOPPED, UNJUDGED, WRONG, Marks
 from ..marking.sheet import Sheet, sources
 from ..marking.sheet_marking import Marking, hand_ins, tell_known
 from ..options import Parser
@@ -17,6 +17,8 @@ from ..refusals import Refused, printable, put, tell
 NOT_ALL_RIGHT = 1
 # That of what cannot be marked at all, as a sheet with mistakes: other than that of a wrong hand-in, so that scripts can tell them apart.
 NOT_MARKED = 3
+# The faults of a run that one looks for in a page of it.
+WATCHED = (WRONG, STOPPED, RACE, EXPENSIVE, IDLE, NOT_PORTABLE)
 # What a mistake in a sheet begins with, so that editors find the place.
 PLACE = re.compile(r".+:\d+:\d+: ")
 MOST_JOBS, MOST_SEED = 1000, 1 << 62
@@ -27,28 +29,35 @@ def parser() -> Parser:
     found = Parser(
         "bspcheck",
         usage="bspcheck [options] SHEET.toml FILE..",
-        description="Marks C programs by a sheet: whether they compile, give the right output for every number of nodes and every input, and"
-        " stay within the allowed costs. It explains the first mistake in words. One FILE gets a full account, several get a row each.",
+        description="Marks C programs by a sheet of tasks.\n\n"
+        "  bspcheck course/01-broadcast/sheet.toml FILE.c\n\n"
+        "It checks whether they compile, give the right output for every number of nodes and every input, and stay within the allowed costs. With"
+        " one FILE, it prints a full report and explains the first mistake; with several, one row each. docs/manual/marking.md is the manual. The"
+        " exit status is 0 if all hand-ins are right, and 1 if one is not (docs/manual/statuses.md).",
     )
     add = found.add_argument
+    found.section("results")
     add("-o", "--output", metavar="FILE", help="write the marks as CSV")
     add("--html", metavar="FILE", help="write the marks as one HTML page, which shows the expected and the actual output for each mistake")
     add("--junit", metavar="FILE", help="write the marks as JUnit XML, for GitHub Classroom, GitLab and Moodle's VPL")
-    add("--freeze", metavar="FILE", help="write what the solution prints and costs to FILE, the sheet's `wanted`, so that students need no solution")
-    add("--costs", action="store_true", help="print the costs of the solution in each run, and the bounds there")
+    found.section("the sheet")
+    add("--freeze", metavar="FILE", help="write the expected output and costs to FILE, which the sheet names as `wanted`. Students can then check without"
+        " the solution")  # fmt: skip
+    add("--costs", action="store_true", help="print what the solution costs in each run, and the bounds of the sheet for that run")
     found.add_number("--seed", what="a seed", least=0, most=MOST_SEED, metavar="SEED", help="another seed for the sheet's inputs")
+    found.section("marking")
     found.add_number("--jobs", what="the number of hand-ins at a time", least=1, most=MOST_JOBS, default=0, metavar="COUNT",
         help="hand-ins marked at a time; default: the number of processors")  # fmt: skip
-    add("--folder", default=".bspcheck", metavar="FOLDER", help="where results are kept; default .bspcheck")
-    add("--anew", action="store_true", help="mark again, even if a result is kept")
-    add("--trusted", action="store_true", help="mark hand-ins even if the kernel cannot restrict what they read; only for those you trust")
+    add("--folder", default=".bspcheck", metavar="FOLDER", help="where to cache results; default .bspcheck")
+    add("--anew", action="store_true", help="ignore cached results, and mark again")
+    add("--trusted", action="store_true", help="mark hand-ins even on a kernel that cannot restrict what they read; only for programs that you trust")
     add("sheet", metavar="SHEET.toml", help="the sheet")
     add("files", metavar="FILE", nargs="*", help="hand-ins, one .c file each")
     return found
 
 
 def main(words: list[str]) -> int:
-    """Marks hand-ins; the status is 0 where all are right, and 1 where one is not."""
+    """Marks hand-ins; the status is 0 if all are right, and 1 if one is not."""
     try:
         return checked(parser().parse_args(words))
     except Refused as refused:
@@ -103,16 +112,18 @@ def named_first(found: list[Marks]) -> str:
 
 
 def advice(marking: Marking, found: list[Marks]) -> list[str]:
-    """How the usual mistakes are looked for in a single hand-in whose output is wrong, and how its run is watched."""
-    wrong = [it.run for it in found[0].checks if it.verdict == WRONG and it.run >= 0] if len(found) == 1 else []
-    if not wrong:
+    """How a run of a single hand-in is watched in which something was wrong, and how the usual mistakes are looked for if it is the output."""
+    faults = [it for it in found[0].checks if it.verdict in WATCHED and it.run >= 0] if len(found) == 1 else []
+    if not faults:
         return []
+    is_wrong = any(it.verdict == WRONG for it in faults)
+    runs = [it.run for it in faults if it.verdict == WRONG or not is_wrong]
     # On an odd number of nodes blocks are seldom whole words by chance, so that an index in the place of an offset shows.
-    nodes = {it: marking.sheet.runs[it].nodes for it in wrong}
-    number = next((it for it in wrong if nodes[it] > 1 and nodes[it] % 2), wrong[0])
+    nodes = {it: marking.sheet.runs[it].nodes for it in runs}
+    number = next((it for it in runs if nodes[it] > 1 and nodes[it] % 2), runs[0])
     name = found[0].name
-    mistakes, page = marking.again(name, number, "--strict"), marking.again(name, number, "--page", "run.html")
-    return [f"  to look for the usual mistakes: {printable(mistakes)}", f"  to watch the run in a page: {printable(page)}"]
+    mistakes = [f"  to look for the usual mistakes: {printable(marking.again(name, number, '--strict'))}"] if is_wrong else []
+    return [*mistakes, f"  to watch the run in a page: {printable(marking.watched(name, number))}"]
 
 
 def write(options: argparse.Namespace, marking: Marking, found: list[Marks]) -> None:
@@ -124,7 +135,7 @@ def write(options: argparse.Namespace, marking: Marking, found: list[Marks]) -> 
     if options.html:
         from ..marking.mark_page import page
 
-        files.write(options.html, page(sheet, found, marking.wanted, marking.again))
+        files.write(options.html, page(sheet, found, marking.wanted, lambda name, number: (marking.again(name, number), marking.watched(name, number))))
     if options.junit:
         from ..marking.mark_report import as_junit
 

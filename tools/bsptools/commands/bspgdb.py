@@ -40,24 +40,30 @@ def arguments(words: Sequence[str]) -> argparse.Namespace:
     parser = Parser(
         "bspgdb",
         usage="bspgdb [-n P] [options] PROGRAM [ARGS..] [-- OPTIONS OF GDB]",
-        description="Debugs a BSP program on P nodes with gdb-multiarch. Rank R is thread R + 1. PROGRAM is an ELF file that was compiled"
-        " with -g, or a C program (.c), which is compiled first. docs/manual/gdb.md is its manual.",
+        description="Debugs a BSP program on P nodes with gdb, forwards and backwards.\n\n"
+        "  bspgdb -n 4 FILE.c                       start gdb on FILE.c\n"
+        "  bspgdb -n 4 FILE.c -- -ex 'break main'   give gdb options of its own\n"
+        "  bspgdb -n 4 --dialogue FILE.s            use the debugger's own commands\n\n"
+        "PROGRAM is a C program (.c), which bspgdb compiles first, an ELF file (compile it with -g), an assembly text (.s) or a raw image (.raw)."
+        " In gdb, rank R is thread R + 1. `reverse-step`, `reverse-continue` and the like go back, and `monitor help` lists more commands."
+        " docs/manual/gdb.md is the manual. The exit status is that of gdb.",
     )
-    parser.add_program()
-    parser.add_machine()
-    parser.add_prices()
-    parser.add_rate()
-    parser.add_argument("--machine", action=Take, metavar="NAME", help="nodes, prices and rate of a machine from the literature, as in bsprun")
+    parser.section("the debugger")
+    parser.add_argument("--dialogue", "--lines", action="store_true", help="use the debugger's own commands instead of gdb, with a prompt, history, and"
+        " names for addresses; type help there. --lines is the old name of this option")  # fmt: skip
     parser.add_argument("--server", action="store_true", help="start no gdb: serve one session on a Unix socket that only you can reach, and"
         " print its path")  # fmt: skip
     parser.add_number("--tcp", what="a port", least=0, most=65535, metavar="PORT", help="like --server, but on this port of 127.0.0.1, which"
         " every user of this host can reach; 0 takes any free port")  # fmt: skip
     parser.add_argument("--stdio", action="store_true", help="like --server, but on standard input and output, for gdb's"
         " `target remote | bspgdb --stdio ..`")  # fmt: skip
-    parser.add_argument("--dialogue", "--lines", action="store_true", help="use the debugger's own commands instead of gdb, with a prompt, history, and"
-        " names for addresses; type help there. --lines is the old name of this option")  # fmt: skip
-    parser.add_argument("--order", metavar="CHOICES", help="debug the run that a finding of bsprun --portable names after `again`")
+    parser.add_argument("--order", metavar="CHOICES", help="debug one run of bsprun --portable: CHOICES is what its finding prints after `again`")
     parser.add_argument("--bspemu", metavar="PATH", help="use this emulator instead of the bspemu next to this tool")
+    parser.add_program()
+    parser.add_machine()
+    parser.add_prices()
+    parser.add_rate()
+    parser.add_argument("--machine", action=Take, metavar="NAME", help="take nodes, prices and rate of a machine, as bsprun does")
     asked = parser.parse_args(words[:end])
     asked.check = asked.check or asked.strict
     asked.gdb_options = list(words[end + 1 :])
@@ -110,7 +116,7 @@ def socket_folder(folder: pathlib.Path) -> Iterator[pathlib.Path]:
 
 
 def talk(job: Job) -> int:
-    """Makes a session of lines. Answers the exit status: the debugger's, where that was refused memory, which it says by itself."""
+    """Makes a session of lines. Answers the exit status: the debugger's, if that was refused memory, which it says by itself."""
     try:
         prompt.talk(command(job))
     except DebuggerEnded as ended:
@@ -121,7 +127,7 @@ def talk(job: Job) -> int:
 
 
 def bridge(command: Sequence[str], typed: Optional[pathlib.Path] = None) -> int:
-    """Makes a session at the other end of gdb's pipe. At a terminal Ctrl-C is for gdb, which closes the pipe where it is ended. But while it
+    """Makes a session at the other end of gdb's pipe. At a terminal Ctrl-C is for gdb, which closes the pipe if it is ended. But while it
     waits for an answer, it tells nothing of that: a file does, whose size is how often it was typed."""
     signal.signal(signal.SIGINT, signal.SIG_IGN)
 
@@ -158,7 +164,7 @@ def check(job: Job) -> None:
 
 
 def file_for_gdb(job: Job, folder: pathlib.Path) -> List[str]:
-    """The file from which gdb takes names and lines, where there is one. Of a text one is made."""
+    """The file from which gdb takes names and lines, if there is one. Of a text one is made."""
     if job.kind != "asm":
         return [str(job.image)] if job.is_for_gdb else []
     content = symbol_file(job.code, job.options.program, job.content.decode(errors="surrogateescape"))

@@ -21,6 +21,8 @@ from ..refusals import printable
 
 # Of a title, and of a setting with its name.
 MOST_LETTERS = 1000
+# A section of the help.
+PICTURES = "pictures of a table of bspsweep"
 
 def span(text: str) -> tuple[int, int | None]:
     """The first and the last superstep of a text as `3`, `3:9` or `3:`."""
@@ -49,7 +51,7 @@ def heading(text: str) -> str:
     """A text above a picture, which matplotlib draws letter by letter: ten thousand take a second."""
     shown = printable(text)
     if len(shown) > MOST_LETTERS:
-        raise argparse.ArgumentTypeError(f"this text has {len(shown)} letters, and {MOST_LETTERS} are the most")
+        raise argparse.ArgumentTypeError(f"this text has {len(shown)} letters; the limit is {MOST_LETTERS}")
     return shown
 
 
@@ -82,30 +84,37 @@ def arguments(words: list[str]) -> argparse.Namespace:
     """What the command line asks for."""
     parser = Parser(
         "bspplot",
-        description="Draws what a run did and what it cost. SOURCE is a profile (`run --profile`), a report (`run --report`, or CSV or JSON from"
-        " `bsprun --report`), the costs of lines (`bsprun --lines-as json=FILE`), or a table of `bspsweep`. The name of a picture ends in .svg,"
-        " .png or .pdf.",
+        usage="bspplot SOURCE [options]",
+        description="Draws what a run did and what it cost.\n\n"
+        "  bsprun -n 4 --profile run.csv FILE.c && bspplot run.csv --timeline run.svg\n"
+        "  bspsweep -n 1,2,4,8 FILE.c -o table.csv && bspplot table.csv --sweep sweep.svg\n\n"
+        "SOURCE is a profile (`run --profile`), a report (`run --report`, or CSV or JSON from `bsprun --report`), the costs of lines (`bsprun"
+        " --lines-as json=FILE`), or a table of `bspsweep`. The name of a picture ends in .svg, .png or .pdf. docs/tutorial/costs.md and"
+        " docs/tutorial/paper.md show the pictures.",
     )
     add = parser.add_argument
+    parser.section("pictures of a run")
     add("--timeline", type=target, metavar="FILE", help="from a profile: work and waiting of each rank, the exchange, and l")
     add("--matrix", type=target, metavar="FILE", help="from a profile: the bytes from rank to rank")
     add("--costs", type=target, metavar="FILE", help="from a profile or a report: the cost of each superstep, split into w, g*h and l")
-    add("--sweep", type=target, metavar="FILE", help="from a table: total, speedup and efficiency over the nodes")
-    add("--compare", type=target, metavar="FILE", help="from a table: totals only, and where one program starts to cost less than another")
     add("--lines", type=target, metavar="FILE", help="from the costs of lines: the most expensive lines")
     add("--source", dest="page", metavar="FILE", help="from the costs of lines: an HTML page with the source, and beside each line"
         " its cost by rank and superstep")  # fmt: skip
     add("--html", metavar="FILE", help="an HTML page with the pictures, the table and the settings of SOURCE")
+    parser.section(PICTURES)
+    add("--sweep", type=target, metavar="FILE", help="total, speedup and efficiency over the nodes")
+    add("--compare", type=target, metavar="FILE", help="totals only, and where one program starts to cost less than another")
+    add_papers(parser)
     parser.add_prices(prices.G, prices.L)
-    add("--apart", choices=["printing"], help="leave the work of output functions out of the costs. SOURCE has to know it: a profile of"
+    add("--apart", choices=["printing"], help="leave the work of output functions out of the costs. Works only if SOURCE has it: a profile of"
         " `bsprun --summary --profile`, or the costs of lines")  # fmt: skip
     add("--rate", type=rate, metavar="COUNT", help="with --compare: instructions a second, to show the totals in seconds too")
-    add("--h", type=reading, default=Reading.OTHERS, metavar="all|others", help="whether h counts what a"
-        " rank moves to itself (all, as a report of `--ledger 1` does) or not (others, the default)")  # fmt: skip
+    add("--h", type=reading, default=Reading.OTHERS, metavar="all|others", help="all: h counts what a rank moves to itself, as `--ledger 1` does;"
+        " others (the default): it does not")  # fmt: skip
+    parser.section("all pictures")
     add("--supersteps", type=span, default=(0, None), metavar="A:B", help="only supersteps A to B; A is one superstep, A: is A and all after it")
     add("--title", type=heading, default="", metavar="TEXT", help="title of each picture and of the page")
-    add("--setting", type=lambda text: pair(heading(text), "a setting as NAME=VALUE"), action="append", default=[], metavar="NAME=VALUE", help="a setting to show at the top of the page; can be repeated")
-    add_papers(parser)
+    add("--setting", type=lambda text: pair(heading(text), "a setting as NAME=VALUE"), action="append", default=[], metavar="NAME=VALUE", help="with --html: show NAME=VALUE at the top of the page; can be repeated")
     add("source", metavar="SOURCE", help="the file to draw")
     asked = parser.parse_args(words)
     asked.words = words
@@ -115,13 +124,15 @@ def arguments(words: list[str]) -> argparse.Namespace:
 def add_papers(parser: Parser) -> None:
     """The options of pictures and tables for papers, of the table of bspsweep."""
     add = parser.add_argument
-    add("--curves", type=paper, metavar="FILE", help="from a table: lines over any of its columns; FILE can also end in .pgf or .tex (pgfplots)")
-    add("--map", type=paper, metavar="FILE", help="from a table: which program costs least for each g and l, and where two cost the same")
-    add("--table", type=tex, metavar="FILE.tex", help="from a table: what --curves draws, as a LaTeX tabular with booktabs rules")
+    parser.section(PICTURES)
+    add("--curves", type=paper, metavar="FILE", help="lines over any column; FILE can also end in .pgf or .tex (pgfplots)")
+    add("--map", type=paper, metavar="FILE", help="which program costs least for each g and l, and where two cost the same")
+    add("--table", type=tex, metavar="FILE.tex", help="what --curves draws, as a LaTeX tabular with booktabs rules")
+    parser.section("for --curves, --map and --table")
     add("--x", default="nodes", metavar="COLUMN", help="with --curves and --table: the x axis: nodes (the default), g, l or a constant")
     add("--y", default="total", choices=MEASURES, help="with --curves and --table: the y axis; default total")
-    add("--by", type=names, metavar="COLUMN,..", help="columns that tell lines, or the programs of a map, apart; default: all that differ")
-    add("--panels", type=names, metavar="COLUMN,..", help="columns that get a small picture for each value, side by side")
+    add("--by", type=names, metavar="COLUMN,..", help="one line, or one program of a map, for each value of these columns; default: all columns that differ")
+    add("--panels", type=names, metavar="COLUMN,..", help="one small picture for each value of these columns, side by side")
     add("--only", type=chosen, action="append", default=[], metavar="COLUMN=VALUE,..", help="only rows with these values of a column; can be repeated")
     add("--log", choices=LOGS, help="logarithmic axes; default: those with a wide range of values")
     add("--size", type=size, metavar="WIDTH[xHEIGHT]", help="with --curves and --map: size of the picture, as 3.3in or 84mmx60mm")
@@ -169,7 +180,7 @@ def is_for_keeping(path: str) -> bool:
 
 
 def main(words: list[str]) -> int:
-    """Draws; the status is 1 where something could not be drawn."""
+    """Draws; the status is 1 if something could not be drawn."""
     asked = arguments(words)
     python_packages.expect(python_packages.MATPLOTLIB)
     with matplotlibs_folder():

@@ -26,34 +26,40 @@ def parser() -> Parser:
     found = Parser(
         "bspprobe",
         usage="bspprobe [options]",
-        description="Measures this host as bspbench does: r, its operations per second; g, the cost of a word in an h-relation; and l, the cost"
-        " of a superstep. For each number of processes it fits a line to the times of h-relations. It writes lines for the machines' file, which"
-        " bsprun --machine reads.",
+        description="Measures r, g and l of this computer for the BSP model.\n\n"
+        "  bspprobe --instructions -o machines.txt\n"
+        "  BSP_MACHINES=machines.txt bsprun --machine NAME-4 FILE.c\n\n"
+        "r is its operations a second, g the cost of a word in an h-relation, and l the cost of a superstep. For each number of processes, bspprobe"
+        " times h-relations and fits a line to the times, as the program bspbench of BSPedupack does. It prints one line for each number of"
+        " processes. Add these lines to your machines' file, which BSP_MACHINES in the environment names: bsprun --machine takes its prices from"
+        " there. docs/manual/native.md is the manual.",
     )
     add = found.add_argument
+    found.section("processes")
     add("-n", "--nodes", type=listed(P), metavar="LIST", help="numbers of processes, as 1,2,4 or 1:4; default: 1, 2, 4 and so on up to the processors")
     add("--mpi", action="store_true", help="use MPI, with the hosts that mpirun has, instead of processes of this host")
     add("--mpirun", default="mpirun -n {p}", metavar="COMMAND", help="how to start a program with MPI; default 'mpirun -n {p}', where {p} is the number of processes")
-    add("--program", metavar="COMMAND", help="run this program, which you built from bsplib/native/probe.c with any BSPlib; {p} is the number of processes,"
-        " as in BSP_PROCS")  # fmt: skip
+    add("--program", metavar="COMMAND", help="run this program, which you built from bsplib/native/probe.c with any BSPlib; {p} is the number of processes")
     add("--samples", action="append", default=[], metavar="FILE", help="measure nothing, and use what such a program has printed; can be repeated")
+    found.section("measurements")
     found.add_number("--word", what="the bytes of a word", least=1, most=MOST_WORD, default=8, metavar="COUNT", help="bytes of a word; default 8")
     found.add_number("--most", what="the greatest h", least=4, most=MOST_H, default=256, metavar="H", help="largest h, in words; default 256")
     found.add_number("--rounds", what="the number of rounds", least=2, most=MOST_ROUNDS, default=20, metavar="COUNT", help="how often each time is"
         " measured; default 20")  # fmt: skip
-    found.add_number("--milliseconds", what="the time of a measurement", least=1, most=MOST_MILLISECONDS, default=1, metavar="MS", help="how long"
-        " the longest measurement takes; default 1")  # fmt: skip
+    found.add_number("--milliseconds", what="the time of a measurement", least=1, most=MOST_MILLISECONDS, default=1, metavar="MS", help="a"
+        " measurement repeats an h-relation so often that the largest h takes MS milliseconds; default 1")  # fmt: skip
     add("--lowest", action="store_true", help="use the lowest of all rounds instead of their median, for a busy host")
-    add("--instructions", action="store_true", help="count instructions of the emulator's nodes instead of operations, as bsprun does")
-    add("--name", type=name, metavar="NAME", help="name of the machine, before -P; default: the host's name")
-    add("-o", "--output", metavar="FILE", help="add the lines to this machines' file (see BSP_MACHINES) instead of printing them")
+    add("--instructions", action="store_true", help="count in instructions of the emulator's nodes instead of operations, for bsprun --machine")
+    found.section("the lines")
+    add("--name", type=name, metavar="NAME", help="name of the machine; the lines have NAME-P, with the number of processes; default: the host's name")
+    add("-o", "--output", metavar="FILE", help="add the lines to this machines' file instead of printing them")
     return found
 
 
 def name(text: str) -> str:
     """A name of a machine."""
     if not text or machine_lines.UNFIT.search(text):
-        raise argparse.ArgumentTypeError(f"{text!r} is no name of a machine: letters, digits and _ . + - make one")
+        raise argparse.ArgumentTypeError(f"{text!r} is not the name of a machine, which has only letters, digits and _ . + -")
     return text
 
 

@@ -13,7 +13,7 @@ import sys
 from .. import children, files, streams
 from ..limits import MOST_WORKERS, WORKERS
 from ..machines import Take
-from ..options import Parser
+from ..options import MISTAKES, OUTPUT, Parser
 from ..outputs.report import Report
 from ..prepare.given_files import files_read, outputs_of
 from ..prepare.job import Job, prepared
@@ -37,42 +37,50 @@ def parser() -> Parser:
     found = Parser(
         "bsprun",
         usage="bsprun [-n P] [options] PROGRAM [ARGS..]",
-        description="Runs a BSP program on P nodes. PROGRAM is an ELF file, an assembly text (.s), a raw image (.raw), or a C program"
-        " (.c), which is compiled first. Standard output gets the program's output, superstep by superstep. Standard error gets what the"
-        " program writes there. If the program reads standard input, it reads yours.",
+        description="Runs a BSP program on P nodes.\n\n"
+        "  bsprun -n 4 --strict FILE.c          run FILE.c, and report likely mistakes\n"
+        "  bsprun -n 4 --summary FILE.c         also print what its supersteps cost\n"
+        "  bsprun -n 4 --page run.html FILE.c   write a page in which you watch the run\n\n"
+        "PROGRAM is a C program (.c), which bsprun compiles first, an ELF file, an assembly text (.s) or a raw image (.raw). Standard output is"
+        " the program's output, superstep by superstep. Standard error is what the program writes there, and bsprun's own lines. If the program"
+        " reads standard input, it reads yours. docs/manual/c.md is the manual, and docs/manual/statuses.md lists the exit statuses.",
     )
     add = found.add_argument
     found.add_program()
-    found.add_machine()
-    found.add_prices()
-    found.add_rate()
-    add("--machine", action=Take, metavar="NAME", help="nodes, prices and rate of a machine from the literature, as t3e-8; options after it override it")
-    add("--out", metavar="DIR", help="write the program's files below DIR; default: the current folder")
-    add("--no-files", action="store_true", help="let the program write no files, and read only those that you give it")
-    add("--report", metavar="FILE", help="write the costs to FILE, as CSV or JSON if its name ends so; - is standard error")
-    add("--page", metavar="FILE", help="write a page in one file of HTML, which has the machine, the program, its sources and its input, and shows the run")  # fmt: skip
-    add("--recorded", action="store_true", help="write that page with a recorded run of at most 8 MiB, and without the machine")
-    add("--profile", metavar="FILE", help="write what each rank did in each superstep to FILE, as CSV for bspplot")
-    add("--summary", action="store_true", help="print the totals and the most expensive supersteps on standard error")
-    add("--apart", choices=["printing"], help="leave the work of output functions out of --summary and --profile; --report keeps it")
-    add("--lines", action="store_true", help="print which source lines and functions cause w and h, on standard error")
-    add("--fold", action="store_true", help="like --lines, but count the work of library functions at the lines that call them")
-    add("--lines-as", type=form, action="append", default=[], metavar="KIND=FILE", help="write that to a file: callgrind, folded (for"
-        " flame graphs), trace (for Perfetto) or json (for bspplot --source); can be repeated")  # fmt: skip
-    add("--no-check", action="store_true", help="skip the search for numbers that do not fit into a long, which runs beside the program")
+    found.section(MISTAKES)
+    add("--warn", action="store_true", help="search for likely mistakes even in a run that ends well; slow")
     found.add_number("--fill", what="the byte of fresh memory", least=0, most=255, metavar="BYTE",
-        help="initial value of stack and malloc memory, for a program that reads what it did not write; default 0")  # fmt: skip
-    add("--warn", action="store_true", help="look for likely mistakes even in a run that ends well; slow")
+        help="fill fresh memory of the stack and of malloc with this byte, to expose reads of uninitialised memory; default 0")  # fmt: skip
+    add("--no-check", action="store_true", help="do not look for integers that do not fit into the 32-bit long of the nodes, nor for offsets and"
+        " sizes that are given in elements; these searches run beside or after the program")  # fmt: skip
     add("--portable", action="store_true", help="run a .c program again under each choice that BSPlib leaves to an implementation")
     found.add_number("--tries", what="the number of orders", least=1, most=10_000, default=8, metavar="N",
         help="orders of messages that --portable tries; default 8, or all if no rank gets more than 4")  # fmt: skip
-    add("--accept", metavar="FILE", help="pairs of lines that --portable may find, which you accept: FILE:LINE FILE:LINE reason")
-    add("--accept-all", metavar="FILE", help="write all pairs that --portable finds as such a file")
-    add("--order", metavar="CHOICES", help="make the run that a finding of --portable names after `again`")
+    add("--accept", metavar="FILE", help="file with pairs of lines that --portable does not report; each of its lines is FILE:LINE FILE:LINE reason")
+    add("--accept-all", metavar="FILE", help="write all pairs that --portable finds to FILE, for --accept")
+    add("--order", metavar="CHOICES", help="repeat one run of --portable: CHOICES is what its finding prints after `again`")
+    found.add_machine()
     found.add_number("--wall", what="the time of a run in seconds", least=1, most=MOST_SECONDS, metavar="SECONDS",
         help="stop the run after this many seconds, and print where each rank was")  # fmt: skip
     found.add_number("--workers", what="the number of threads", least=1, most=MOST_WORKERS, default=WORKERS, metavar="COUNT",
-        help="threads of the host; default 1")  # fmt: skip
+        help="threads of this computer; default 1")  # fmt: skip
+    found.add_prices()
+    found.add_rate()
+    add("--machine", action=Take, metavar="NAME", help="take nodes, prices and rate of a machine: t3e-2, t3e-4, .., t3e-64 are from the literature,"
+        " and bspprobe measures yours; later options override them")  # fmt: skip
+    add("--summary", action="store_true", help="print the totals and the most expensive supersteps on standard error")
+    add("--lines", action="store_true", help="print which source lines and functions cause w and h, on standard error")
+    add("--fold", action="store_true", help="like --lines, but count the work of library functions at the lines that call them")
+    add("--lines-as", type=form, action="append", default=[], metavar="KIND=FILE", help="write the costs of lines to FILE. KIND is callgrind,"
+        " folded (for flame graphs), trace (for Perfetto) or json (for bspplot --source); can be repeated")  # fmt: skip
+    add("--report", metavar="FILE", help="write the costs to FILE, as CSV or JSON if its name ends so; - is standard error")
+    add("--profile", metavar="FILE", help="write what each rank did in each superstep to FILE, as CSV for bspplot")
+    add("--apart", choices=["printing"], help="leave the work of output functions out of --summary and --profile; --report keeps it")
+    found.section(OUTPUT)
+    add("--out", metavar="DIR", help="write the program's files below DIR; default: the current folder")
+    add("--no-files", action="store_true", help="let the program write no files, and read only those that you give it")
+    add("--page", metavar="FILE", help="write one HTML file in which you watch the run. It contains the emulator, the program, its sources and its input")
+    add("--recorded", action="store_true", help="with --page: include a recording of the run, of at most 8 MiB, instead of the emulator")
     return found
 
 
@@ -142,7 +150,7 @@ def deliver(job: Job, done: Done) -> int:
     found, options = done.report, job.options
     if done.status < 0:
         why = signal.strsignal(-done.status) or f"signal {-done.status}"
-        why += ", as by a host that has no memory left" if -done.status == signal.SIGKILL else ""
+        why += ", perhaps because the host ran out of memory" if -done.status == signal.SIGKILL else ""
         tell([f"bsprun: the emulator was ended after {done.seconds:.1f} s: {why}"])
         return BY_SIGNAL - done.status
     if found is None:
@@ -178,6 +186,7 @@ def deliver(job: Job, done: Done) -> int:
         tell_of(job, found, parser(), is_chosen=chosen is not None, are_offsets_told=is_told, digest=done.digest)
     # A program may end with a status of its own.
     options.is_tried = found.outcome == "ended" or found.outcome.endswith("stopped: aborted")
+    options.work = sum(it.costs["w"] for it in found.supersteps)
     if options.portable and not options.is_tried:
         tell(["bsprun: not tried: other choices, because the run itself fails"])
     status = done.status if chosen is None else chosen.status
@@ -271,17 +280,29 @@ def main(words: list[str]) -> int:
         with about(options.out):
             os.mkdir(options.out)
     options.folder = None if options.out is None else files.Folder.of(options.out)
-    with children.folder("bsprun") as folder, contextlib.closing(Beside(folder)) as beside:
+    with contextlib.ExitStack() as over:
+        folder = over.enter_context(children.folder("bsprun"))
+        beside = over.enter_context(contextlib.closing(Beside(folder)))
         if options.page is not None:
             return write_page(options, folder, words)
-        job = prepared(options, folder, "bsprun", is_marked=True, beside=beside.build)
+        begin = beside.build
+        if options.portable:
+            from ..portable.portability import Builds, is_portable
+
+            builds = over.enter_context(Builds(options, folder))
+
+            def begin(asked: argparse.Namespace, content: bytes) -> None:
+                """Begins the builds that go beside the program's own."""
+                beside.build(asked, content)
+                if not content:
+                    builds.begin()
+
+        job = prepared(options, folder, "bsprun", is_marked=True, beside=begin)
         if options.order is not None:
             from ..portable.orders import with_order
 
             job = with_order(job, folder)
         status = run(job, beside, folder, Repeated())
         if options.portable and (status == 0 or getattr(options, "is_tried", False)):
-            from ..portable.portability import is_portable
-
-            return status if is_portable(job, folder, options.accepted) else OTHERWISE
+            return status if is_portable(job, folder, builds, options.accepted) else OTHERWISE
         return status

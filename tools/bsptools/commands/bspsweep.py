@@ -9,9 +9,9 @@ import re
 import shlex
 import shutil
 
-from .. import children, emulator, files, sealed_results
+from .. import children, emulator, files, limits, sealed_results
 from ..machines import Family, family_named
-from ..options import P, Parser, listed, named, pair
+from ..options import COMPILING, P, Parser, listed, named, pair
 from ..prices import Exact, G, L
 from ..prices import listed as prices_listed
 from ..refusals import REFUSED, Refused, counted, put, show, tell
@@ -50,7 +50,7 @@ def hosts(text: str) -> tuple[str, ...]:
     found = tuple(text.split(","))
     for it in found:
         if HOST.fullmatch(it) is None:
-            raise argparse.ArgumentTypeError(f"{it!r} is no name of a host, as one, user@one.example or 4/one for 4 runs at a time; : is this one")
+            raise argparse.ArgumentTypeError(f"{it!r} is not the name of a host, such as one, user@one.example, or 4/one for 4 runs at a time; : is this host")
     return found
 
 
@@ -58,7 +58,7 @@ def constant(text: str) -> tuple[str, list[str]]:
     """A constant and its values, as `N=100,1000`."""
     name, values = pair(text, "a constant as NAME=VALUE,VALUE,..")
     if not name.isidentifier():
-        raise argparse.ArgumentTypeError(f"{text!r}: {name!r} is no name of a constant")
+        raise argparse.ArgumentTypeError(f"{text!r}: {name!r} is not the name of a constant")
     return name, list(dict.fromkeys(values.split(",")))
 
 
@@ -66,35 +66,45 @@ def arguments(words: list[str]) -> argparse.Namespace:
     """What the command line asks for."""
     parser = Parser(
         "bspsweep",
-        description="Runs programs over lists of settings, in all combinations, and writes one CSV table. A PROGRAM is anything that bsprun"
-        " runs. Results are kept, so nothing is run twice.",
+        usage="bspsweep [options] PROGRAM..",
+        description="Runs programs with all combinations of settings, and writes one CSV table.\n\n"
+        "  bspsweep -n 1,2,4,8 --g 1,4 FILE.c -o table.csv\n"
+        "  bspsweep --machine t3e --define N=100,1000 FILE.c -o table.csv\n\n"
+        "A PROGRAM is anything that bsprun runs. Results are cached, so nothing is run twice. bspplot draws the table; docs/tutorial/costs.md"
+        " shows how. The exit status is 0 if all runs ended well, and 2 if all were made and one did not (docs/manual/statuses.md).",
     )
     add = parser.add_argument
+    parser.section("settings")
     add("-n", "--nodes", type=listed(P), metavar="LIST", help="numbers of nodes, as 1,2,4,8 or 1:8; default: those of --machine, or 1")
     add("--g", type=prices_listed(G), metavar="LIST", help="prices of a byte of h, as 4, 3.875 or 31/8; default 1")
     add("--l", type=prices_listed(L), metavar="LIST", help="prices of the end of a superstep; default 0")
     add("--prices", type=pairs, metavar="G:L,..", help="pairs of prices, in addition to all combinations of --g and --l")
-    add("--machine", type=families, default=[], metavar="LIST", help="prices of machines from the literature, in addition: t3e has its own for"
-        " each number of nodes, and t3e-8 those for 8")  # fmt: skip
+    add("--machine", type=families, default=[], metavar="LIST", help="prices of machines, in addition to --g and --l: t3e takes the prices for each"
+        " number of nodes, and t3e-8 those for 8 nodes. t3e-2, t3e-4, .., t3e-64 are from the literature, and bspprobe measures yours")  # fmt: skip
     add("--interpolate", choices=["linear"], help="interpolate prices of --machine between the numbers of nodes that were measured; the table"
         " says so")  # fmt: skip
     add("--input", action="append", metavar="FILE", help="an input; can be repeated")
     add("--args", type=parted, action="append", metavar="TEXT", help="arguments of main, split as the shell does; can be repeated")
     add("--define", type=constant, action="append", default=[], metavar="N=100,1000", help="values of a compile-time constant of a .c program")
     add("--file", action="append", default=[], metavar="FILE", help="file that the program can open with fopen, in all runs")
+    parser.section(COMPILING)
+    parser.add_number("--stack", what="the room of the stack in bytes", least=limits.LEAST_STACK, most=limits.MOST_STACK,
+        metavar="BYTES", help="stack of a .c program; default 1M, or 128K if --memory is less than 4M")  # fmt: skip
     parser.add_machine()
+    parser.section("the table")
     add("-o", "--output", metavar="FILE", help="write the table to FILE; default: standard output. FILE.json gets a record of the command, versions,"
         " and digests of everything the table depends on")  # fmt: skip
-    add("--again", metavar="FILE.json", type=named, help="make the table of a record again, with -o or to standard output, and report what has changed")
-    add("--folder", default=".bspsweep", metavar="FOLDER", help="where results are kept; default .bspsweep")
-    add("--engine", choices=engines.NAMES, default=engines.AUTO, help="what makes the runs; default: GNU parallel if it is installed,"
-        " otherwise one run after another")  # fmt: skip
+    add("--again", metavar="FILE.json", type=named, help="make the table of this record again, and report what has changed; -o says where")
+    add("--check", action="store_true", help="make each run again, on each of --hosts if given, and compare the results")
+    parser.section("execution")
+    add("--engine", choices=engines.NAMES, default=engines.AUTO, help="how to execute the runs: plain is one after another, parallel is GNU parallel,"
+        " slurm is sbatch on a cluster; auto, the default, is parallel if it is installed, and plain otherwise")  # fmt: skip
     parser.add_number("--jobs", what="the number of runs at a time", least=1, most=100_000, default=0, metavar="COUNT", help="runs at a"
         " time; default: the number of processors")  # fmt: skip
     add("--hosts", type=hosts, default=(), metavar="H1,H2", help="hosts for GNU parallel, by ssh; they need this folder and the program at the same paths")
     add("--sbatch", type=parted, default="", metavar="OPTIONS", help="more options of sbatch, as '--partition=short --time=10'")
     add("--script", action="store_true", help="write the script for sbatch, print how to start it, and run nothing")
-    add("--check", action="store_true", help="make each run again, on each of --hosts if given, and compare the results")
+    add("--folder", default=".bspsweep", metavar="FOLDER", help="where to cache results; default .bspsweep")
     add("program", metavar="PROGRAM", nargs="*", help="a program to run")
     options = parser.parse_args(words)
     if options.again is not None and table_record.without_aside(words):
@@ -231,7 +241,7 @@ def sweep(options: argparse.Namespace, words: list[str], before: table_record.Re
     tell([*unkept, *sealed_results.told_of_others(of_others, options.folder)], "bspsweep: ")
     known = len(whole.places) - len(missing)
     if known:
-        tell([f"{known} of {counted(len(whole.places), 'run')} {'was' if known == 1 else 'were'} made before"], "bspsweep: ")
+        tell([f"{known} of {counted(len(whole.places), 'run')} {'was' if known == 1 else 'were'} cached"], "bspsweep: ")
     if missing:
         try:
             whole.make(engine, missing, MAIN)
@@ -290,7 +300,7 @@ def expect_outputs(options: argparse.Namespace, inputs: list[str]) -> None:
 
 
 def main(words: list[str]) -> int:
-    """Sweeps; the status is 1 where a run could not be made, a check found a difference or another table was made again, and else 2 where one
+    """Sweeps; the status is 1 if a run could not be made, a check found a difference or another table was made again, and else 2 where one
     did not end well."""
     if words[:1] == ["--make"] and len(words) == 3:
         return sweep_job.make(words[1], words[2])

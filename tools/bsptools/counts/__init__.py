@@ -1,1 +1,1 @@
-"""What a run's exact counts show: work by line, function and call, and the formats in which other programs read it."""
+"""The exact counts of a run: work by line, function and call, and formats for other programs."""

@@ -1,4 +1,4 @@
-"""How much of a run's work was made in the library's output functions: by the counts of their instructions, and so exact."""
+"""The work of a run in the library's output functions, exactly, from the counts of their instructions."""
 
 from __future__ import annotations
 
@@ -38,7 +38,7 @@ def output_functions(work: Work) -> set[int]:
 
 
 def printing(work: Work) -> Printing | None:
-    """The work of output functions; none where a run has no such functions."""
+    """The work of output functions; none if a run has no such functions."""
     functions = output_functions(work)
     if not functions:
         return None

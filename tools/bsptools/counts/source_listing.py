@@ -34,19 +34,19 @@ class Superstep(NamedTuple):
 
     @property
     def printed_in_w(self) -> int | None:
-        """How many steps of the slowest rank were in output functions, where that is known."""
+        """How many steps of the slowest rank were in output functions, if that is known."""
         return self.printed[max(range(len(self.ticks)), key=lambda rank: (self.ticks[rank], -rank))] if self.printed else None
 
     @property
     def without_printing(self) -> int | None:
-        """The w of this superstep without the work of output functions, where that is known."""
+        """The w of this superstep without the work of output functions, if that is known."""
         return max(steps - printed for steps, printed in zip(self.ticks, self.printed)) if self.printed else None
 
 
 class Line(NamedTuple):
     """What a line costs, or a function that has no line. `file` is the file's place among the sources, and -1 without a line.
 
-    paid are the steps of the slowest ranks, of which w is made; with_calls those that are paid with what is called from there, None where
+    paid are the steps of the slowest ranks, which add up to w; with_calls those that are paid with what is called from there, None if
     that is not known, exact or apportioned. In `folded` the work of library functions stands at the lines that called them, apportioned;
     supersteps has that by superstep, and ranks has all steps of each rank in the same way. h is the bytes of h that the line asks for.
     """
@@ -169,7 +169,7 @@ def of_json(content: Mapping[str, Any]) -> Listing:
     lines = [line_of(it) for it in content["lines"]]
     outcome = str(content["outcome"])
     if not OUTCOME.match(outcome.encode(errors="replace")) or "\n" in outcome:
-        raise Unfit(f"{outcome!r} is no outcome")
+        raise Unfit(f"{outcome!r} is not an outcome")
     return Listing(printable(str(content["program"])), supersteps, outcome, files, lines)
 
 
@@ -202,14 +202,14 @@ def checked(it: Listing) -> Listing:
             raise Unfit(f"the printing of superstep {number} is not that of its ranks")
     for line in it.lines:
         if not -1 <= line.file < len(it.files) or (line.file >= 0) != (line.number > 0) or len(line.ranks) != it.nodes:
-            raise Unfit(f"{line.function}: it is no line of a file that there is")
+            raise Unfit(f"{line.function}: it is not a line of a known file")
         if sum(line.supersteps.values()) != line.folded:
-            raise Unfit(f"{line.function}: its supersteps do not come to its sum")
+            raise Unfit(f"{line.function}: its supersteps do not add up to its sum")
         for number, count in line.supersteps.items():
             sums[number] += count
         ranks = [one + other for one, other in zip(ranks, line.ranks)]
     if sums != [superstep.w for superstep in it.supersteps] or sum(line.paid for line in it.lines) != it.w:
-        raise Unfit("the lines do not come to w")
+        raise Unfit("the lines do not add up to w")
     if ranks != [sum(of_rank) for of_rank in zip(*(superstep.ticks for superstep in it.supersteps))]:
-        raise Unfit("the lines do not come to what the ranks made")
+        raise Unfit("the lines do not add up to what the ranks made")
     return it

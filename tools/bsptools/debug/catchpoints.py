@@ -1,4 +1,4 @@
-"""Environment calls before which the machine stops, as `monitor call` sets them."""
+"""Environment calls before which the machine stops, set by `monitor call`."""
 
 from __future__ import annotations
 

@@ -1,4 +1,4 @@
-"""What gdb's `monitor` can ask for: what the machine has and gdb has no command for."""
+"""The commands of gdb's `monitor`: what the machine has and gdb has no command for."""
 
 from __future__ import annotations
 
@@ -18,7 +18,7 @@ from .runner import Runner
 HELP = """\
 monitor superstep K     stop where superstep K begins: a point, to which continue goes, and reverse-continue
 monitor superstep       the superstep that has begun
-monitor call NAME       stop before each call of a function of BSPlib, as bsp_put; `to R` and `from R` behind it: to rank R, by rank R alone
+monitor call NAME       stop before each call of a function of BSPlib, as bsp_put; `to R` and `from R` after it: only to rank R, only by rank R
 monitor points          at which supersteps and calls it stops, and whether at the end
 monitor delete          take all of these away
 monitor end             stop where the run ends, from where one can go back, before gdb's program ends
@@ -68,7 +68,7 @@ class Monitor:
         return _text(lines)
 
     def _lines(self, name: str, operands: List[str], current: int) -> Optional[List[str]]:
-        """The lines of an answer; nothing where there is no such command."""
+        """The lines of an answer; nothing if there is no such command."""
         machine = self._runner.machine
         if name == "wrote" and operands:
             return self._teller().wrote(*asked_bytes(self._names, operands, machine.ranks, current))

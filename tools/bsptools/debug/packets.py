@@ -31,19 +31,19 @@ class Broken(Refused):
 class NotGdb(Broken):
     """Something else has come."""
 
-    why = "what came is not gdb's protocol"
+    why = "received data that is not gdb's protocol"
 
 
 class Silent(Broken):
     """Nothing whole has come for too long."""
 
-    why = "no packet has come over a connection"
+    why = "no packet arrived over a connection"
 
 
 class Closed(Broken):
     """The other side has closed the connection."""
 
-    why = "the connection was closed without an end of the session"
+    why = "the connection was closed before the session ended"
 
 
 def checksum(payload: bytes) -> int:

@@ -1,4 +1,4 @@
-"""Sessions with gdb: over a connection that is there, or the first one that comes over a socket."""
+"""Sessions with gdb: over an existing connection, or the first one that arrives at a socket."""
 
 from __future__ import annotations
 

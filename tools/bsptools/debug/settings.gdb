@@ -1,4 +1,4 @@
-# What gdb has to know of a machine whose ranks are its threads. bspgdb reads this; with an editor that starts gdb by itself, source it.
+# Settings of gdb for a machine whose ranks are threads. bspgdb reads this; with an editor that starts gdb by itself, source it.
 
 # Memory and registers are read only.
 set may-write-memory off

@@ -1,4 +1,4 @@
-"""What gdb is told when the machine has stopped."""
+"""The replies to gdb when the machine has stopped."""
 
 from __future__ import annotations
 

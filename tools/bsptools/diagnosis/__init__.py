@@ -1,1 +1,1 @@
-"""Why runs stop, and what in them is likely a mistake."""
+"""Why a run stopped, and what in it is a likely mistake."""

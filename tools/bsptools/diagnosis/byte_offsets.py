@@ -1,4 +1,4 @@
-"""Offsets and sizes in elements where BSPlib counts bytes, by the types of the variables that are named.
+"""Offsets and sizes that are given in elements, but BSPlib counts bytes: found by the types of the variables.
 
 The run is made again, in the debugger, beside which nothing is looked at but areas and requests. It is given as long as the run took.
 """
@@ -269,7 +269,7 @@ def has_large(variables: Variables) -> bool:
 
 def findings(job: Job, report: Report, seconds: float) -> list[str]:
     """A line for each offset and size that is counted in elements, once for each place, for the first area that is larger than its block,
-    and for the first one that is registered in another order. The program's variables are read where there are suspects, since that takes
+    and for the first one that is registered in another order. The program's variables are read if there are suspects, since that takes
     as long as many a run."""
     nodes, last = int(job.options.nodes), report.supersteps[-1].number
     if last == 0 or nodes * sum(it.costs["w"] for it in report.supersteps) > MOST_STEPS:
@@ -294,7 +294,7 @@ def findings(job: Job, report: Report, seconds: float) -> list[str]:
 
 
 def scaled(looker: Looker, used: Used, work: dict[int, int]) -> str:
-    """The line of offsets in an area that are those of the bytes here in the same variable, but in its elements; nothing where that is not
+    """The line of offsets in an area that are those of the bytes here in the same variable, but in its elements; nothing if that is not
     so of all of them, and of more than one."""
     found: dict[int, tuple[Call, int]] = {}
     for superstep, rank in sorted(used.makers, key=lambda it: work.get(it[0], 0))[:MOST_MAKERS]:
@@ -317,8 +317,8 @@ def scaled(looker: Looker, used: Used, work: dict[int, int]) -> str:
     if looked is None or looked.area is None or (known is not None and known.size != size):
         return ""
     begin = f"rank {call.node.rank}, superstep {call.superstep}: offset {offset} of {name} at {looked.place}"
-    what = f"{looked.area.name}[{offset}], which is {inside} bytes behind the beginning of {looked.area.name}"
-    advice = "offsets count bytes, so if that is meant, multiply by"
+    what = f"{looked.area.name}[{offset}], which is {inside} bytes after the beginning of {looked.area.name}"
+    advice = "offsets count bytes, so if you mean that, multiply by"
     return f"{begin} looks like the index of {what}: {advice} sizeof({known.name or 'it' if known is not None else 'it'})"
 
 
@@ -338,7 +338,7 @@ def too_large(looker: Looker, suspect: Suspect, asked: int) -> str:
     looked = looker.look(suspect)
     where = f" by bsp_push_reg at {looked.place}" if looked is not None else ""
     begin = f"rank {suspect.rank}, superstep {suspect.superstep}: {suspect.size} bytes are registered{where}"
-    return f"{begin}, of a block of malloc that has {asked}: what is put behind these overwrites other blocks"
+    return f"{begin}, of a block of malloc that has {asked}: a put past them overwrites other blocks"
 
 
 def other_order(looker: Looker, suspect: Suspect, first: int) -> str:
@@ -346,12 +346,12 @@ def other_order(looker: Looker, suspect: Suspect, first: int) -> str:
     looked = looker.look(suspect)
     where = f", by bsp_push_reg at {looked.place}" if looked is not None else ""
     here, there = (f"{it:#x} ({looker.name(suspect, it)})" for it in (suspect.area, first))
-    begin = f"rank {suspect.rank}, superstep {suspect.superstep}: areas are registered in another order than by rank 0{where}"
-    return f"{begin}: {here} in the place of {there}, so that what is put into one comes into the other"
+    begin = f"rank {suspect.rank}, superstep {suspect.superstep}: areas are registered in a different order than on rank 0{where}"
+    return f"{begin}: {here} instead of {there}, so a put into one goes into the other"
 
 
 def may_be_large(sources: list[str]) -> bool:
-    """Whether a program of these sources may have numbers of eight bytes, by its words; also where no source is given."""
+    """Whether a program of these sources may have numbers of eight bytes, by its words; also if no source is given."""
     return not sources or any(re.search(LARGE_NAMES, it) for it in texts(sources, []))
 
 
@@ -380,4 +380,4 @@ def told(looker: Looker, suspects: list[list[Suspect]], latest: float) -> Iterat
         places.setdefault(f"{what} {looked.place}", (line, set()))[1].update(it.rank for it in alike)
     for line, ranks in places.values():
         more = len(ranks) - 1
-        yield line + (f", and so {counted(more, 'more rank')}" if more > 0 else "")
+        yield line + (f"; the same on {counted(more, 'more rank')}" if more > 0 else "")

@@ -1,4 +1,4 @@
-"""Targets of gets that are read before the bsp_sync that brings what was asked for."""
+"""Targets of gets that are read before the bsp_sync that fills them."""
 
 from __future__ import annotations
 

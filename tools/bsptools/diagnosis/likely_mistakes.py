@@ -1,4 +1,4 @@
-"""What is likely a mistake in a run, also in one that ends well."""
+"""Likely mistakes of a run, also of one that succeeds."""
 
 from __future__ import annotations
 
@@ -37,33 +37,33 @@ def warnings(
     met = meeting(steps, last)
     early_targets, are_all_looked_at = early_reads(steps, last)
     found: dict[str, list[Finding]] = {
-        "requests that come to nothing": pending(steps, last) if report.outcome == "ended" and not is_cut else [],
-        "areas in another order": [] if are_offsets_told else other_order(steps, last),
+        "requests without effect": pending(steps, last) if report.outcome == "ended" and not is_cut else [],
+        "areas in different orders": [] if are_offsets_told else other_order(steps, last),
         "puts that meet": met,
-        "offsets that are no multiple of a word": [] if are_offsets_told else crooked(steps, last, met),
-        "targets of gets that are read too early": early_targets,
-        "messages that are read too late": late(steps, last),
-        "messages that are read too early": before_they_come(steps, last),
-        "messages that are counted too early": counted_before_they_come(steps, last),
-        "addresses that are sent to other ranks": addresses(steps, last),
-        "tags of a size that is not in effect yet": early(steps, last),
+        "offsets that are not a multiple of a word": [] if are_offsets_told else crooked(steps, last, met),
+        "targets of gets read too early": early_targets,
+        "messages read too late": late(steps, last),
+        "messages read too early": before_they_come(steps, last),
+        "messages counted too early": counted_before_they_come(steps, last),
+        "addresses sent to other ranks": addresses(steps, last),
+        "tags of a size not yet in effect": early(steps, last),
     }
     texts, left = first_of_each(steps, list(found.values()))
     texts += [it for several in others.values() for it in several]
     more = [f"  and {left} more"] if left else []
     if is_cut:
-        more.append(f"  and no more than the first {counted(last, 'superstep')} were looked at, since the run is long")
+        more.append(f"  only the first {counted(last, 'superstep')} were checked, because the run is long")
     if not steps.is_whole:
-        more.append(f"  and no more than the first {MOST_STOPS} calls of a rank were looked at")
+        more.append(f"  only the first {MOST_STOPS} calls of a rank were checked")
     if not are_all_looked_at:
-        more.append("  and not all instructions behind gets were looked at")
+        more.append("  and not all instructions after gets were checked")
     absent = [name for name, several in [*found.items(), *others.items()] if not several]
     absent = [it for it in absent if not are_offsets_told or not it.startswith(("offsets", "areas"))]
     if is_brief:
         is_right = report.outcome == "ended" and not (texts or are_offsets_told or is_warned)
         none = ["bsprun: nothing in this run looks like a mistake"] if is_right else []
         return [f"bsprun: warning: {it}" for it in texts] + more + none
-    last_line = [f"bsprun: looked for, and not found: {', '.join(absent)}"] if absent else []
+    last_line = [f"bsprun: checked for other likely mistakes, and found none: {', '.join(absent)}"] if absent else []
     return [f"bsprun: warning: {it}" for it in texts] + more + last_line
 
 
@@ -76,7 +76,7 @@ def first_of_each(steps: SuperstepCalls, kinds: list[list[Finding]]) -> tuple[li
     texts = []
     for same in (it for several in parted for it in several if any(it is one for one in shown)):
         more = len({ranks_of(it) for it in same}) - 1
-        texts.append("".join(map(steps.told, same[0])) + (f", and so {counted(more, 'more rank')}" if more else ""))
+        texts.append("".join(map(steps.told, same[0])) + (f"; the same on {counted(more, 'more rank')}" if more else ""))
     return texts, len(turns) - len(shown)
 
 
@@ -100,7 +100,7 @@ def pending(steps: SuperstepCalls, last: int) -> list[Finding]:
     for rank in range(steps.nodes):
         calls = [it for it in steps.of(rank, last) if it.number in REQUESTS]
         if calls:
-            begin = f"what was asked for in superstep {last} comes to nothing, since no bsp_sync follows: {len(calls)} of rank {rank}"
+            begin = f"the requests of superstep {last} have no effect, because no bsp_sync follows: {len(calls)} of rank {rank}"
             found.append([f"{begin}, the first of ", (rank, calls[0])])
     return found
 
@@ -140,7 +140,7 @@ def counted_in_bytes(one: Landing, other: Landing) -> str:
     size, offsets = one.end - one.start, [it.call.operand("offset") for it in (one, other)]
     if other.end - other.start != size or all(it % size == 0 for it in offsets):
         return ""
-    return f"; offset {max(offsets)} is no multiple of the {size} bytes of a put: offsets count bytes"
+    return f"; offset {max(offsets)} is not a multiple of the {size} bytes of a put: offsets count bytes"
 
 
 def crooked(steps: SuperstepCalls, last: int, met: list[Finding]) -> list[Finding]:
@@ -155,7 +155,7 @@ def crooked(steps: SuperstepCalls, last: int, met: list[Finding]) -> list[Findin
             is_odd = size in SIZES and own % min(size, WORD) == 0 and offset % min(size, WORD) != 0
             if is_odd and back not in told and not is_of_bytes(steps, call):
                 told.add(back)
-                begin = f"offset {offset} is no multiple of the {size} bytes that are moved in superstep {superstep} by "
+                begin = f"offset {offset} is not a multiple of the {size} bytes that are moved in superstep {superstep} by "
                 found.append([begin, (rank, call), ": offsets count bytes"])
     return found
 
@@ -169,7 +169,7 @@ def is_of_bytes(steps: SuperstepCalls, call: Call) -> bool:
 
 
 def late(steps: SuperstepCalls, last: int) -> list[Finding]:
-    """Takings of messages where none is left, one superstep after some were left in the queue, the first of each rank."""
+    """Takings of messages if none is left, one superstep after some were left in the queue, the first of each rank."""
     found: list[Finding] = []
     for rank in range(steps.nodes):
         left = 0
@@ -179,8 +179,8 @@ def late(steps: SuperstepCalls, last: int) -> list[Finding]:
             moves = [i for i, it in enumerate(takes) if it.number == MOVE]
             behind = moves[came - 1] + 1 if 0 < came <= len(moves) else 0 if came == 0 else len(takes)
             if left > 0 and behind < len(takes):
-                begin = f"a message is read in superstep {superstep}, where none is left, by "
-                end = f": {left} of superstep {superstep - 1} were not read there, and are gone"
+                begin = f"a message is read in superstep {superstep} although none is left, by "
+                end = f": {left} of superstep {superstep - 1} were not read there and are lost"
                 found.append([begin, (rank, takes[behind]), end])
                 break
             left = max(came - len(moves), 0)
@@ -188,7 +188,7 @@ def late(steps: SuperstepCalls, last: int) -> list[Finding]:
 
 
 def before_they_come(steps: SuperstepCalls, last: int) -> list[Finding]:
-    """Takings of messages where none is left, in a superstep in which some are sent to this rank that are not read when they have come; the
+    """Takings of messages if none is left, in a superstep in which some are sent to this rank that are not read when they have come; the
     first of each rank."""
     found: list[Finding] = []
     for rank in range(steps.nodes):
@@ -199,7 +199,7 @@ def before_they_come(steps: SuperstepCalls, last: int) -> list[Finding]:
             later = [it for it in steps.of(rank, superstep + 1) if it.number in TAKES]
             if len(moves) > len(came) and sent and not later:
                 begin = f"a message is read in superstep {superstep}, in which it is sent, by "
-                end = f": it comes with the next bsp_sync, behind which none of {len(sent)} is read"
+                end = f": it arrives with the next bsp_sync, but after that none of {len(sent)} is read"
                 found.append([begin, (rank, moves[len(came)]), end])
                 break
             came = sent
@@ -207,7 +207,7 @@ def before_they_come(steps: SuperstepCalls, last: int) -> list[Finding]:
 
 
 def counted_before_they_come(steps: SuperstepCalls, last: int) -> list[Finding]:
-    """Questions how many messages there are where there are none, in a superstep in which some are sent to this rank, which neither asks
+    """Questions how many messages there are if there are none, in a superstep in which some are sent to this rank, which neither asks
     again nor reads when they have come; the first of each rank."""
     found: list[Finding] = []
     for rank in range(steps.nodes):
@@ -243,7 +243,7 @@ def addresses(steps: SuperstepCalls, last: int) -> list[Finding]:
             variable = known.at(own, unwound(steps.trace.code, node)[1]) if node is not None else None
             if variable is not None and is_pointer(variable.kind):
                 begin = f"an address is sent to another rank in superstep {superstep}, {variable.part(own)} of "
-                found.append([begin, (rank, call), ": it names a place in the memory of this rank alone, so send what stands there"])
+                found.append([begin, (rank, call), ": it is valid only in the memory of this rank, so send the data instead"])
     return found
 
 

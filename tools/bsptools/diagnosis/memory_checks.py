@@ -71,13 +71,13 @@ def reads(first: Run, again: Run, fill: int) -> list[str]:
     """Where the output of two runs differs."""
     if first == again:
         return []
-    begin = f"memory is read that was not written before: where it has the byte {fill:#x} at first"
+    begin = f"memory is read before it is written: if it starts with the byte {fill:#x}"
     if first.output == again.output:
-        return [f"{begin}, the run comes to another end: {again.outcome}"]
+        return [f"{begin}, the run ends differently: {again.outcome}"]
     lines = [it.output.split(b"\n") for it in (first, again)]
     at = next((i for i, (a, b) in enumerate(zip(*lines)) if a != b), min(map(len, lines)))
     texts = [repr(of[at][:MOST_SHOWN].decode(errors="replace")) if at < len(of) else "not there" for of in lines]
-    return [f"{begin}, line {at + 1} of the output is {texts[1]}, and else {texts[0]}"]
+    return [f"{begin}, line {at + 1} of the output is {texts[1]} instead of {texts[0]}"]
 
 
 def parted(one: Filled, other: Filled) -> str:
@@ -113,7 +113,7 @@ def memory_findings(job: Job, outcome: str, digest: bytes | None) -> dict[str, l
     if not job.mark or output_records.PLACE not in job.content:
         return {}
     fill = next(it for it in FILLS if it != options.fill)
-    found: dict[str, list[str]] = {"memory that is written past a block of malloc": [], "memory that is read before it is written": []}
+    found: dict[str, list[str]] = {"memory written past a malloc block": [], "memory read before it is written": []}
     again = run_of(job, output_records.LOOKS, fill)
     # Where that stopped is looked for before the job is set for another run.
     where = [] if again is None or again[0].outcome == "ended" else Why(job.code, job.replays(), options.nodes, options.limit).lines(again[1])

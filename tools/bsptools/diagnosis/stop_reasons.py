@@ -20,7 +20,7 @@ from ..refusals import Refused, counted, numbered
 
 # Of a run of more instructions, what was registered before its last superstep is looked for where likely mistakes are.
 MOST_TRACED = 100_000_000
-LONG = "what is registered was not looked for in so long a run: --warn does"
+LONG = "the run is too long to look up what is registered; --warn does"
 # How many stopped nodes are looked at, and how many of them are told of in full.
 MOST_LOOKS = 8
 MOST_TOLD = 3
@@ -77,7 +77,7 @@ class Why:
         return node and self.replays.with_stack(self.session, node)
 
     def bytes_at_end(self, rank: int, address: int, count: int) -> bytes:
-        """Memory of a node there; nothing where it does not lie in the memory."""
+        """Memory of a node there; nothing if it does not lie in the memory."""
         reply = self.session.ask(f"bytes {rank} {address} {count}")
         return bytes_of(reply.lines) if reply.is_done else b""
 
@@ -110,7 +110,7 @@ class Why:
                 lines += text
                 told.add(where)
         others = len(stopped) - len(told)
-        return lines + ([f"  and {others} more of the ranks in this superstep"] if others > 0 else [])
+        return lines + ([f"  {counted(others, 'more rank')} stopped in this superstep"] if others > 0 else [])
 
     def stopped_at_end(self, report: Report) -> list[int]:
         """The ranks that were stopped in the last superstep of a run."""
@@ -141,11 +141,11 @@ class Why:
     def exhausted(self, node: Node, superstep: int) -> list[str]:
         """A node that came to the limit."""
         more = min(max(10 * self.limit, 10_000_000), MOST_TICKS)
-        advice = f"give a greater one, as --limit {more}" if self.limit < MOST_TICKS else "no greater one can be given"
+        advice = f"raise it with --limit {more}" if self.limit < MOST_TICKS else "this is the largest possible limit"
         return [
-            f"rank {node.rank} stopped in superstep {superstep}: it made {node.ticks} instructions, which is the limit",
+            f"rank {node.rank} stopped in superstep {superstep}: it executed {node.ticks} instructions, the limit",
             f"  at   {place(self.code, node)}",
-            f"  why  a loop without an end, or a limit that is too small: {advice}",
+            f"  why  an endless loop, or a limit that is too small: {advice}",
         ]
 
     def reasons(self, node: Node, superstep: int) -> list[str]:
@@ -176,7 +176,7 @@ class Why:
             return "NULL is used as a pointer here: the compiler saw it, and put a trap"
         lines = source_lines(self.code, node.pc)
         if lines and re.search(r"[/%]", re.sub(COMMENT, "", source_text(lines[0][1]))):
-            return "a whole number is divided by 0 here: the compiler saw it, and put a trap"
+            return "an integer is divided by 0 here: the compiler saw it, and put a trap"
         return "the compiler saw that the program goes wrong here, and put a trap"
 
     def is_behind_main(self, node: Node) -> bool:
@@ -186,7 +186,7 @@ class Why:
         return node.state == "aborted" and names <= BEHIND_MAIN and not users_frames(self.code, chain)
 
     def end_of_main(self) -> str:
-        """The line of the end of main; nothing where it is not known."""
+        """The line of the end of main; nothing if it is not known."""
         start = self.code.names.get("main")
         body = self.code.body(start) if start is not None else {}
         lines = [it for at in body for it in source_lines(self.code, at)[-1:] if it[0] == "main"]
@@ -218,7 +218,7 @@ class Why:
         texts = [f"{texts[0]}: the pointer was read through NULL"] if is_of_null(address) else texts
         if top and (node.x[2] >= self.replays.memory or node.x[2] < 64):
             more = size_text(min(4 * top, MOST_STACK // 2))
-            texts = [f"the stack is too deep: its room is {top} bytes; give --stack {more}, of an ELF file to bspcc, or make large arrays static"]
+            texts = [f"stack overflow: the stack has {top} bytes; give --stack {more}, of an ELF file to bspcc, or make large arrays static"]
         return texts
 
     def no_code(self, node: Node, _superstep: int) -> list[str]:
@@ -236,30 +236,30 @@ class Why:
         return [f"the {unit} at {node.pc:#x} is {self.no_instruction(node, content)}"]
 
     def misaligned(self, node: Node, _superstep: int) -> list[str]:
-        """An instruction at an odd address, or one of extension A on a word at an address that is no multiple of 4."""
+        """An instruction at an odd address, or one of extension A on a word at an address that is not a multiple of 4."""
         if node.pc % 2:
-            return [f"the program begins at {node.pc:#x}, and instructions stand at even addresses"]
+            return [f"the program begins at {node.pc:#x}, but instructions must be at even addresses"]
         content = self.bytes_at_end(node.rank, node.pc, 4)
         name, address = name_with(ATOMIC, content) or "the instruction", node.x[address_register(content)]
-        return [f"{name} is of a word, and its address {address:#x} is no multiple of 4"]
+        return [f"{name} accesses a word, but its address {address:#x} is not a multiple of 4"]
 
     def no_instruction(self, node: Node, content: bytes) -> str:
         """What code is that a node does not have."""
         if not self.code.is_atomic:
             atomic = name_with(ATOMIC, content)
             if atomic:
-                return f"{atomic}, of extension A, which nodes do not have: give --atomic"
+                return f"{atomic}, an instruction of extension A, which these nodes do not have: run with --atomic"
         name, mode = float_instruction(content)
         if not name:
-            return "no instruction that a node has"
+            return "not an instruction that a node has"
         if not self.code.is_float:
             without = "" if self.code.lines else ", or compile by bspcc -march=rv32imc, which does without"
-            return f"{name}, of floating point, for which nodes have no units: give --float{without}"
+            return f"{name}, a floating-point instruction, but these nodes have no floating-point unit: run with --float{without}"
         where = f"the rounding mode {mode}" if mode in RESERVED else f"the rounding mode of frm, which is {self.frm(node)}"
         return f"{name} in {where}: the modes are 0 to 4"
 
     def frm(self, node: Node) -> int:
-        """The rounding mode that a node has in frm; 0 where it has no unit of floating point."""
+        """The rounding mode that a node has in frm; 0 if it has no unit of floating point."""
         reply = self.session.ask(f"fregs {node.rank}")
         return floats_of(reply.lines).frm if reply.is_done else 0
 
@@ -297,7 +297,7 @@ class Why:
         offset, count, target = call.operand("offset"), call.operand("nbytes"), call.operand("pid")
         node = self.trace.node_of(rank, REQUESTS, superstep, call)
         lines = [
-            f"rank {rank} asked in superstep {superstep} for what its area does not have, in its request {request}",
+            f"rank {rank}, superstep {superstep}, request {request}: it reaches past the area",
             f"  at   {place(self.code, node, is_call_told=True) if node else 'a place that was not found'}",
             f"  call {spelled(self.code, node or call.node)}",
         ]
@@ -307,8 +307,8 @@ class Why:
         if position is None or position >= len(areas):
             return lines
         size = areas[position][1]
-        extent = "offset is negative" if offset < 0 else f"offset {offset} and {count} bytes come to {offset + count}"
-        return [*lines, f"  why  {extent}, and the area has {size} bytes at rank {target}"]
+        extent = "offset is negative" if offset < 0 else f"offset {offset} + {count} bytes = {offset + count}"
+        return [*lines, f"  why  {extent}, but the area at rank {target} has {size} bytes"]
 
     def other_registrations(self, rank: int, superstep: int) -> list[str]:
         """The first registration of a rank that is not that of rank 0."""
@@ -317,7 +317,7 @@ class Why:
         first = next((i for i, (a, b) in enumerate(pairs) if a.number != b.number), min(map(len, made)))
         if first == len(made[0]) == len(made[1]):
             first = next((i for i, (a, _) in enumerate(zip(*made)) if a.number == POP), 0)
-        lines = [f"rank {rank} did not make the registrations of rank 0 in superstep {superstep}; the first that differs:"]
+        lines = [f"rank {rank} did not register the same as rank 0 in superstep {superstep}; the first difference:"]
         for which, calls in zip((0, rank), made):
             if first < len(calls):
                 self.bring_gdb_to(which, superstep, calls[first], calls)
@@ -330,7 +330,7 @@ class Why:
 
     def other_tag_size(self, rank: int, superstep: int) -> list[str]:
         """The tag sizes of a rank and of rank 0."""
-        lines = [f"rank {rank} has another tag size than rank 0 at the end of superstep {superstep}"]
+        lines = [f"rank {rank} has a different tag size than rank 0 at the end of superstep {superstep}"]
         for which in (0, rank):
             calls = self.trace.calls_in(which, (TAGSIZE,), superstep)
             if not calls:
@@ -349,21 +349,21 @@ class Why:
         """Which limit of a superstep was met."""
         is_large = limits.OPTION in self.replays.words
         most = limits.of(is_large)
-        otherwise = "" if is_large else f"; a machine with {limits.OPTION} has higher limits"
+        otherwise = "" if is_large else f"; {limits.OPTION} raises it"
         if node.x[17] == PUSH:
-            return [f"{most.areas} areas are registered, and {most.requests} pushes in a superstep are the most{otherwise}"]
+            return [f"{most.areas} registered areas, or {most.requests} pushes in a superstep, are the limit{otherwise}"]
         if node.x[17] not in REQUESTS:
-            return [f"{most.superstep} bytes in a superstep are the most, over puts, gets, messages and output{otherwise}"]
+            return [f"{most.superstep} bytes in a superstep are the limit for puts, gets, messages and output together{otherwise}"]
         made = self.trace.calls_in(node.rank, (*REQUESTS, WRITE), superstep)
         asked = [it for it in made if it.number in REQUESTS]
         if len(asked) > most.requests:
-            return [f"{most.requests} puts, gets and messages in a superstep are the most{otherwise}"]
+            return [f"{most.requests} puts, gets and messages in a superstep are the limit{otherwise}"]
         names = {SEND: "payload_nbytes", WRITE: "count"}
         # Without their tags.
         size = sum(it.operand(names.get(it.number, "nbytes")) for it in made)
         return [
-            f"{most.superstep} bytes in a superstep are the most, over puts, gets, messages and output, and this makes"
-            f" {size}: part them by a bsp_sync{otherwise}"
+            f"{most.superstep} bytes in a superstep are the limit for puts, gets, messages and output together, and this makes"
+            f" {size}: split them up by a bsp_sync{otherwise}"
         ]
 
     def desync(self, ended: int, synced: int, superstep: int) -> list[str]:
@@ -391,7 +391,7 @@ class Why:
                 places.setdefault(alike[key], []).append(rank)
         told = [f"  {numbered(of)} made {last + 1}, the last at {where}{end}" for where, of in list(places.items())[:MOST_TOLD]]
         left = sum(len(of) for of in list(places.values())[MOST_TOLD:])
-        return told + ([f"  and {left} more of the ranks"] if left else [])
+        return told + ([f"  and {counted(left, 'more rank')}"] if left else [])
 
     def end_of(self, ended: int, superstep: int) -> str:
         """Where a rank ended in a superstep."""
@@ -404,7 +404,7 @@ class Why:
 
 
 def source_text(line: str) -> str:
-    """The text of a line of a source; nothing where that is not here."""
+    """The text of a line of a source; nothing if that is not here."""
     path, _, number = line.rpartition(":")
     with contextlib.suppress(Refused, ValueError, IndexError):
         return named_content(path, MOST_SOURCE).decode(errors="replace").splitlines()[int(number) - 1]

@@ -1,4 +1,4 @@
-"""Where the supersteps of a run end: the places of the program's own source at which rank 0 calls bsp_sync."""
+"""Where the supersteps of a run end: the lines of the program's own source at which rank 0 calls bsp_sync."""
 
 from __future__ import annotations
 

@@ -1,1 +1,1 @@
-"""What `bspgdb --dialogue` is: a prompt, and answers to lines with names."""
+"""`bspgdb --dialogue`: a prompt, and answers to lines with names."""

@@ -77,7 +77,7 @@ class Dialogue:
             return True
         if self._session.room < RESERVE:
             self._return_to(self._place())
-            put("nothing is kept any more: a new process goes on from here\n" if self._is_kept else "")
+            put("the kept states are lost: a new process continues from here\n" if self._is_kept else "")
             self._is_kept = False
         try:
             asked = self._lines.parsed(line, self._ranks, self._address)
@@ -94,7 +94,7 @@ class Dialogue:
         except Refused as refused:
             _tell(f"refused: {refused.args[0]}", *refused.args[1:])
         except Interrupted:
-            put("broken off\n")
+            put("interrupted\n")
         return True
 
     def completing(self, words: List[str]) -> List[str]:
@@ -116,7 +116,7 @@ class Dialogue:
         before = self._place() if asked.verb in LONG else None
         reply = self._wait(spelled, before)
         if reply is None:
-            put("broken off: all stands where it stood" + (", and nothing is kept any more\n" if self._is_kept else "\n"))
+            put("interrupted: nothing has changed" + (", and the kept states are lost\n" if self._is_kept else "\n"))
             self._is_kept = False
             return
         if not reply.is_done:
@@ -134,7 +134,7 @@ class Dialogue:
             self._is_told = False
 
     def _wait(self, line: str, before: Optional[Place]) -> Optional[Reply]:
-        """The reply to a line; nothing where it was broken off. Then all is brought back to where it stood."""
+        """The reply to a line; nothing if it was broken off. Then all is brought back to where it stood."""
         self._session.send(line)
         while before is not None and not self._session.is_answered(POLL):
             if self._is_interrupted():
@@ -158,12 +158,12 @@ class Dialogue:
             self._points.discard(point)
 
     def _tell_outcome(self, line: str) -> None:
-        """Says once where the ranks are at the end of the run, where that is not that all have ended."""
+        """Says once where the ranks are at the end of the run, if that is not that all have ended."""
         if told(line) == told("ended") or self._is_told or line.startswith("stopped at "):
             return
         self._is_told = True
         lines = list(self._where(Asked("where", {}, [])))
-        _tell(*lines[:MOST_PLACES], *([f"and {len(lines) - MOST_PLACES} ranks more: where"] if len(lines) > MOST_PLACES else []))
+        _tell(*lines[:MOST_PLACES], *([f"and {len(lines) - MOST_PLACES} more ranks: type where"] if len(lines) > MOST_PLACES else []))
         _tell(*self._extension_wanted(rank_of(line, 0)))
 
     def _extension_wanted(self, rank: int) -> List[str]:
@@ -184,10 +184,10 @@ class Dialogue:
         texts = {
             RefusalCode.BAD_RANK: ranks_of(self._ranks),
             RefusalCode.BAD_RANGE: "there is not so much yet; without a number all is shown",
-            RefusalCode.NO_FLOAT_UNIT: "the program does not say that it wants one; bspgdb --float gives it to nodes",
-            RefusalCode.TOO_MANY: f"{MOST_POINTS:,} points are set; clear takes one away",
-            RefusalCode.NO_SUCH_BREAK: "points tells which are set",
-            RefusalCode.NO_SUCH_KEPT: "kept tells which are",
+            RefusalCode.NO_FLOAT_UNIT: "the program does not use floating point; bspgdb --float gives nodes a unit",
+            RefusalCode.TOO_MANY: f"{MOST_POINTS:,} points are set, the limit; clear removes one",
+            RefusalCode.NO_SUCH_BREAK: "points lists those that are set",
+            RefusalCode.NO_SUCH_KEPT: "kept lists them",
             RefusalCode.BAD_COMMAND: "this emulator has no such line",
         }
         return texts.get(code, "")
@@ -249,7 +249,7 @@ class Dialogue:
     def _shown(self, asked: Asked, unit: int) -> bytes:
         """The memory that a line asks for, in units of so many bytes."""
         if asked.how_many * unit > MOST_SHOWN:
-            raise Denied(RefusalCode.BAD_RANGE, f"{MOST_SHOWN // unit} are the most that are shown at once")
+            raise Denied(RefusalCode.BAD_RANGE, f"at most {MOST_SHOWN // unit} are shown at once")
         return self._memory(asked.operands["RANK"], asked.operands["ADDR"], asked.how_many * unit)
 
     def _end(self, asked: Asked, unit: int) -> Iterator[str]:
@@ -274,8 +274,8 @@ class Dialogue:
         addr = asked.operands.setdefault("ADDR", node.pc)
         if addr % 2:
             count = asked.operands.get("N", addr)
-            what = f"instructions stand at even addresses, and {addr:#x} is odd"
-            raise Denied(RefusalCode.BAD_COMMAND, f"{what}; {count} of them from where the rank stands are list {node.rank} $pc {count}")
+            what = f"instructions are at even addresses, and {addr:#x} is odd"
+            raise Denied(RefusalCode.BAD_COMMAND, f"{what}; {count} of them from the pc of the rank on: list {node.rank} $pc {count}")
         yield from named_views.instructions(self.names, asked.operands["ADDR"], self._shown(asked, 4), asked.how_many, node.pc)
 
     def _where(self, asked: Asked) -> Iterator[str]:

@@ -26,7 +26,7 @@ ADDED = {"fregs": "[NAME]"}
 DEFAULTS = {"bytes": 16, "words": 8, "list": 8, "wrote": 4}
 # What is told of some lines besides.
 MORE = {
-    "list": f"; without ADDR from where the rank stands, without N {DEFAULTS['list']}",
+    "list": f"; without ADDR from the pc of the rank on, without N {DEFAULTS['list']}",
     "bytes": f"; without LEN {DEFAULTS['bytes']}",
     "words": f"; without N {DEFAULTS['words']}",
     "wrote": f"; without N {DEFAULTS['wrote']}",
@@ -34,8 +34,8 @@ MORE = {
     "quit": "; so do exit, q and Ctrl-D",
 }
 OPERANDS = (
-    "RANK, K, N, LEN, COUNT and FROM are numbers. ADDR is a number, a name of the program, or a register, as $sp or $a0, and behind each"
-    " may be +N, as table+4."
+    "RANK, K, N, LEN, COUNT and FROM are numbers. ADDR is a number, a name of the program, or a register, as $sp or $a0."
+    " +N may follow each, as in table+4."
 )
 # Words that other debuggers have for some of them.
 ALSO = {"exit": "quit", "q": "quit", "?": "help"}
@@ -61,7 +61,7 @@ IN_GDB = {
     "s": "step",
     "si": "step",
     "stepi": "step",
-    "thread": "where, and each line is told the rank",
+    "thread": "where, and give each line the rank",
     "x": "bytes, words, text or list",
 }
 MOST = (1 << 64) - 1
@@ -127,7 +127,7 @@ class Lines:
         verb = ALSO.get(verb, verb)
         usages = self.of(verb)
         if not usages:
-            raise Denied(RefusalCode.BAD_COMMAND, f"there is no line {printable(verb)}{self._meant(verb)}; help tells the lines")
+            raise Denied(RefusalCode.BAD_COMMAND, f"there is no line {printable(verb)}{self._meant(verb)}; help lists the lines")
         # Where the word behind the verb is that of a line, it is that line.
         usages = [usage for usage in usages if usage.split()[1:2] == words[:1]] or usages
         refusals: List[Mismatch] = []
@@ -147,7 +147,7 @@ class Lines:
     def _meant(self, verb: str) -> str:
         """What says which line is meant by a word that none begins with, if that is known."""
         if verb in IN_GDB:
-            return f"; what gdb does by that is done by {IN_GDB[verb]}"
+            return f"; instead of gdb's command, use {IN_GDB[verb]}"
         # Only what is mistyped wants it.
         import difflib
 
@@ -169,7 +169,7 @@ class Lines:
         """What is told of all lines, or of those with a verb."""
         usages = self.of(verb) if verb else list(self.purposes)
         if not usages:
-            raise Denied(RefusalCode.BAD_COMMAND, f"there is no line {printable(verb)}; help tells the lines")
+            raise Denied(RefusalCode.BAD_COMMAND, f"there is no line {printable(verb)}; help lists the lines")
         width = max(map(len, usages))
         yield from (f"{usage:{width}}  {self.purposes[usage]}" for usage in usages)
         yield from [] if verb else [OPERANDS]
@@ -183,7 +183,7 @@ def _spelled_here(form: LineForm) -> str:
 
 
 def _matched(usage: Sequence[str], words: Sequence[str], ranks: int, address: Reader) -> tuple[Dict[str, int], List[str]]:
-    """The operands that words give a line. What they cannot be is refused; with no text where a word of the line is another one."""
+    """The operands that words give a line. What they cannot be is refused; with no text if a word of the line is another one."""
     operands: Dict[str, int] = {}
     small: List[str] = []
     rest = list(words)
@@ -210,7 +210,7 @@ def _matched(usage: Sequence[str], words: Sequence[str], ranks: int, address: Re
             except Refused as refused:
                 raise Mismatch(str(refused), count) from refused
     if rest:
-        raise Mismatch(f"{printable(rest[0])} is a word too many", len(usage))
+        raise Mismatch(f"{printable(rest[0])} is one word too many", len(usage))
     return operands, small
 
 

@@ -1,1 +1,1 @@
-"""Framed sessions with `bspemu debug`, and what is found by them: runs made again, backtraces, environment calls."""
+"""Framed sessions with `bspemu debug`, and what they find: repeated runs, backtraces, environment calls."""

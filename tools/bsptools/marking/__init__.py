@@ -1,1 +1,1 @@
-"""What `bspcheck` does: it marks hand-ins by a sheet."""
+"""`bspcheck`: marks hand-ins by a sheet."""

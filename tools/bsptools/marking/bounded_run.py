@@ -1,4 +1,4 @@
-"""Programs that are run for so long, and of whose output so much is taken: what is more ends them."""
+"""Runs a program with limits on its time and its output."""
 
 from __future__ import annotations
 

@@ -1,4 +1,4 @@
-"""The files that the compiler reads, as it says by itself, so that a hand-in which names others to it finds none."""
+"""The files that the compiler needs, as it reports them: a hand-in cannot make it read others."""
 
 from __future__ import annotations
 

@@ -1,4 +1,4 @@
-"""A process that can open no files but those that it is given, whatever it is told to open: Landlock, which Linux has from 5.13 on.
+"""A process that can open only the given files, by Landlock, which Linux has since 5.13.
 
 A hand-in may name any file to the compiler, as in `#include` or `.incbin`, and any to what reads its debug information, by `#line`.
 """

@@ -1,4 +1,4 @@
-"""The picture of what a run costs, beside the solution's: a bar each, with a piece for each superstep."""
+"""The picture of a run's costs beside the solution's: a bar each, with a piece for each superstep."""
 
 from __future__ import annotations
 

@@ -1,4 +1,4 @@
-"""The first difference between an output and the one that was wanted, in words."""
+"""The first difference between an output and the expected one, in words."""
 
 from __future__ import annotations
 
@@ -17,7 +17,7 @@ NOT_THERE = "nothing"
 
 
 class Row(NamedTuple):
-    """A line of the output beside the wanted one, each None where there is none, and whether they count as the same."""
+    """A line of the output beside the wanted one, each None if there is none, and whether they count as the same."""
 
     number: int
     came: Optional[str]
@@ -72,26 +72,26 @@ def rows(came: bytes, wanted: bytes, sheet: Sheet) -> List[Row]:
 def first_difference(came: bytes, wanted: bytes, sheet: Sheet) -> str:
     """What came and what was wanted, of the first line that differs."""
     if not came and wanted:
-        return f"nothing was printed, and {shown(lines_of(wanted)[0])} was wanted first"
+        return f"nothing was printed, but {shown(lines_of(wanted)[0])} was expected first"
     if not wanted:
-        return f"{shown(lines_of(came)[0])} was printed, and nothing was wanted"
+        return f"{shown(lines_of(came)[0])} was printed, but nothing was expected"
     one, other = lines_of(came), lines_of(wanted)
     for number, (a, b) in enumerate(zip(one, other), 1):
         if not is_same_line(a, b, sheet):
             skipped = first_shown(a, b)
-            return f"line {number} of the output is {shown(a, skipped)}, and {shown(b, skipped)} was wanted{blanks(a, b)}"
+            return f"line {number} of the output is {shown(a, skipped)}, but {shown(b, skipped)} was expected{blanks(a, b)}"
     if len(one) < len(other):
-        return f"the output ends after line {len(one)}, and {shown(other[len(one)])} was wanted next"
+        return f"the output ends after line {len(one)}, but {shown(other[len(one)])} was expected next"
     if len(one) > len(other):
-        return f"line {len(other) + 1} of the output is {shown(one[len(other)])}, and nothing more was wanted"
-    return "the last line has no line feed at its end" if wanted.endswith(b"\n") else "nothing was wanted behind the last line"
+        return f"line {len(other) + 1} of the output is {shown(one[len(other)])}, but nothing more was expected"
+    return "the last line has no line feed at its end" if wanted.endswith(b"\n") else "nothing was expected after the last line"
 
 
 def blanks(came: str, wanted: str) -> str:
     """What is added where lines differ in blanks alone, or in the case of letters."""
     if came.split() == wanted.split():
-        return ": they differ in blanks alone"
-    return ": they differ in capitals alone" if came.lower() == wanted.lower() else ""
+        return ": only their blanks differ"
+    return ": only their capital letters differ" if came.lower() == wanted.lower() else ""
 
 
 def first_shown(came: str, wanted: str) -> int:

@@ -1,4 +1,4 @@
-"""What comes of a hand-in before anything of it is judged: what the compiler said, and what each run wrote, cost and ended with."""
+"""The evidence about a hand-in: what the compiler printed, and the output, costs and end of each run."""
 
 from __future__ import annotations
 

@@ -1,4 +1,4 @@
-"""Bounds of costs as formulas, such as `h <= 2*(p - 1)*n/p + 8`: how they are read, and what they come to."""
+"""Bounds of costs as formulas, such as `h <= 2*(p - 1)*n/p + 8`: parses them and computes their values."""
 
 from __future__ import annotations
 
@@ -59,7 +59,7 @@ class Formula:
         try:
             whole = ast.parse(text.strip().replace("\n", " "), mode="eval").body
         except (SyntaxError, ValueError, RecursionError, MemoryError) as error:
-            raise Wrong(f"this is no formula: {getattr(error, 'msg', error)}", (getattr(error, "offset", 1) or 1) - 1) from error
+            raise Wrong(f"this is not a formula: {getattr(error, 'msg', error)}", (getattr(error, "offset", 1) or 1) - 1) from error
         if not isinstance(whole, ast.Compare) or len(whole.ops) != 1 or type(whole.ops[0]) not in COMPARISONS:
             raise Wrong("a bound compares two sides once, by <=, <, >=, > or ==, as supersteps <= 3", 0)
         self.sides = (whole.left, whole.comparators[0])
@@ -67,7 +67,7 @@ class Formula:
         for side in self.sides:
             _check(side)
         if SOLUTION in _names(self.sides[0]):
-            raise Wrong(f"{SOLUTION} belongs on the right side: it is what the left side comes to in the solution's run", whole.left.col_offset)
+            raise Wrong(f"{SOLUTION} belongs on the right side: it is the value of the left side in the solution's run", whole.left.col_offset)
 
     @property
     def is_floor(self) -> bool:
@@ -100,7 +100,7 @@ class Formula:
         return min((it.col_offset for it in nodes), default=0)
 
     def bound(self, values: Mapping[str, float], solution: Mapping[str, float]) -> Bound:
-        """What it comes to for these values, and those of the solution. Raises ValueError where it comes to nothing."""
+        """What it comes to for these values, and those of the solution. Raises ValueError if it comes to nothing."""
         left = _value(self.sides[0], values)
         more = {SOLUTION: _value(self.sides[0], solution)} if solution else {}
         right = _value(self.sides[1], {**values, **more})
@@ -108,7 +108,7 @@ class Formula:
 
 
 def told(value: float) -> str:
-    """A number as it is told: with commas, and no digits behind the point where it is whole."""
+    """A number as it is told: with commas, and no digits behind the point if it is whole."""
     return f"{int(value):,}" if value == int(value) else f"{value:,.2f}"
 
 
@@ -126,7 +126,7 @@ def _check(node: Any) -> None:
         _check(node.operand)
     elif isinstance(node, ast.Call) and isinstance(node.func, ast.Name) and not node.keywords:
         if node.func.id not in FUNCTIONS:
-            raise Wrong(f"{node.func.id} is no function of a formula: there are {', '.join(FUNCTIONS)}", node.col_offset)
+            raise Wrong(f"{node.func.id} is not a function of formulas; these are {', '.join(FUNCTIONS)}", node.col_offset)
         for it in node.args:
             _check(it)
     elif isinstance(node, ast.Constant):

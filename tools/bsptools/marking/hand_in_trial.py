@@ -1,4 +1,4 @@
-"""A hand-in is tried: compiled, and run on each case and number of nodes that a sheet asks for, with limits, in a folder of its own."""
+"""Tries a hand-in: compiles it, and runs it on each case and number of nodes of a sheet, with limits, in its own folder."""
 
 from __future__ import annotations
 
@@ -25,7 +25,7 @@ from ..framed.environment_calls import Tracer
 from ..outputs import contested_bytes
 from ..outputs.output_demux import ERROR, OUTPUT, Marks
 from ..outputs.report import Report, part
-from ..portable.portability import TRIES, verdict
+from ..portable.portability import TRIES, Builds, verdict
 from ..portable.portability_findings import told_contested
 from ..prepare.job import Job, prepared
 from ..program import elf
@@ -59,7 +59,7 @@ SCARCE = re.compile(r"(?:File size|CPU time) limit exceeded|out of memory alloca
 NO_MEMORY = 5
 LACKS = (errno.ENOSPC, errno.EDQUOT, errno.ENOMEM, errno.EAGAIN, errno.EMFILE, errno.ENFILE)
 SLOW = "the compiler took too long"
-UNTRIED = "not portable: it does not end well where it is compiled for this trial, with the same constants, input and arguments"
+UNTRIED = "not portable: it fails if it is compiled for this trial, with the same constants, input and arguments"
 SAFE = re.compile(r"[A-Za-z_][\w.-]{0,80}\.(?:c|cc|cpp|cxx)", re.ASCII)
 COMMENTS = re.compile(r"//[^\n]*|/\*.*?\*/|\"(?:\\.|[^\"\\\n])*\"|'(?:\\.|[^'\\\n])*'", re.DOTALL)
 
@@ -162,7 +162,7 @@ class Trial:
         if ran.how != bounded_run.ENDED:
             said.insert(0, f"the compiler was ended after {COMPILER_SECONDS} s")
         elif not is_built and not said:
-            said.append(f"the compiler ended with status {ran.status}, as where memory ran out")
+            said.append(f"the compiler ended with status {ran.status}, perhaps because memory ran out")
         if number == 0 or not is_built:
             # Warnings and the files that were included come first, and may be many.
             first = 0 if is_built else next((at for at, it in enumerate(said) if ERRORS.search(it)), 0)
@@ -181,7 +181,7 @@ class Trial:
         return [emulator.program("bspcc"), *options, *warnings, "-fdiagnostics-color=never", *constants, self.name]
 
     def find_calls(self) -> None:
-        """Which of the calls that the sheet speaks of the hand-in's own code names, each with its line, or 0 where the text does not have it."""
+        """Which of the calls that the sheet speaks of the hand-in's own code names, each with its line, or 0 if the text does not have it."""
         target = self.folder / "calls.o"
         defines = self.plan.runs[0].defines if self.plan.runs else ()
         bounded_run.run(self.compiler(defines, "-c", "-o", target.name), COMPILER_SECONDS, MOST_COMPILED, compiler_environment(self.folder))
@@ -227,9 +227,9 @@ class Trial:
         words = [*job.program, "run", *job.settings, "--workers", "1", "--report", "--live"]
         ran = bounded_run.run(words, self.plan.seconds, run.output + MOST_REPORT, is_busy=True)
         if ran.how == bounded_run.ENDED and ran.status == -signal.SIGKILL:
-            self.found.lack = "the run was killed, as where memory ran out"
+            self.found.lack = "the run was killed, perhaps because memory ran out"
         if self.is_scarce and ran.how == bounded_run.ENDED and ran.status == NO_MEMORY:
-            self.found.lack = "memory ran out, of which this host lets a process have less than the sheet does"
+            self.found.lack = "memory ran out: this host gives a process less memory than the sheet allows"
         ended, report = self.ended(job, ran, run.output)
         if report is None:
             return ended
@@ -244,7 +244,7 @@ class Trial:
         return ended
 
     def ended(self, job: Job, ran: Ran, most: int) -> Tuple[Ended, Optional[Report]]:
-        """What a run came to, and its report where it has one."""
+        """What a run came to, and its report if it has one."""
         marks = Marks(job.mark)
         pieces = list(marks.take(ran.output))
         whole = b"".join(it for kind, it in pieces if kind == OUTPUT) + marks.left()
@@ -277,7 +277,7 @@ class Trial:
 
     def lacks(self, search: str) -> None:
         """Takes note that a search came to no end: a hand-in is not right for want of it."""
-        self.found.lack = f"{search} came to no end in {self.patience} s, or in the memory that there is; more seconds in the sheet give it longer"
+        self.found.lack = f"{search} did not end in {self.patience} s, or ran out of memory; `seconds` in the sheet gives it longer"
 
     def race(self, job: Job, report: Report) -> List[str]:
         """What two requests of a superstep bring to the same bytes, if they do."""
@@ -291,7 +291,7 @@ class Trial:
         with patient():
             job.code.know_names()
             return told_contested(Tracer(job.code, job.replays()), found.first, found.places - 1)
-        return [f"superstep {found.first.superstep}, rank {found.first.rank}: two requests write other bytes to one place"]
+        return [f"superstep {found.first.superstep}, rank {found.first.rank}: two requests write different bytes to the same place"]
 
     def exceeded(self, run: RunPlan, ended: Ended) -> List[str]:
         """The costs of bounds that are not kept."""
@@ -330,7 +330,8 @@ class Trial:
         self.found.portable, self.found.is_portable = [], False
         with patient(self.patience):
             job = self.job(run, pathlib.Path(self.name), "portable")
-            found = verdict(job, self.folder / "portable")
+            with Builds(job.options, self.folder / "portable") as builds:
+                found = verdict(job, self.folder / "portable", builds)
             self.found.portable = [it.replace("bsprun: ", "", 1) for it in found.lines()] if found else [UNTRIED]
             self.found.is_portable = found is not None and not found.found
             return
@@ -359,11 +360,11 @@ def compiler_environment(folder: pathlib.Path) -> Mapping[str, str]:
 def refusal(text: bytes) -> str:
     """Why a hand-in is no program, if it is none."""
     if len(text) > MOST_TEXT:
-        return f"the file has more than {MOST_TEXT} bytes, which no program of a sheet has"
+        return f"the file has more than {MOST_TEXT} bytes, the limit for a program"
     if not COMMENTS.sub("", text.decode(errors="replace")).strip():
         return "the file is empty"
     if b"\0" in text:
-        return "the file is no text: hand in the program's source"
+        return "the file is not text: hand in the program's source"
     return ""
 
 

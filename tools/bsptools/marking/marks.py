@@ -1,4 +1,4 @@
-"""What a hand-in is worth by a sheet, and the first thing that is wrong with it, in words."""
+"""The mark of a hand-in by a sheet, and its first mistake, in words."""
 
 from __future__ import annotations
 
@@ -26,14 +26,14 @@ LOST = {EMPTY: "there is no program", NOT_COMPILED: "it does not compile", UNJUD
 
 
 class Judgement(NamedTuple):
-    """What a checker says of a run: a verdict and the fault, or nothing where it is right."""
+    """What a checker says of a run: a verdict and the fault, or nothing if it is right."""
 
     verdict: str = ""
     fault: str = ""
 
 
 class Wanted(NamedTuple):
-    """What is wanted of a run: its output, where the sheet has one, and what the solution costs, where there is one."""
+    """What is wanted of a run: its output, where the sheet has one, and what the solution costs, if there is one."""
 
     output: Optional[bytes] = None
     costs: Mapping[str, float] = {}
@@ -133,18 +133,18 @@ class Marker:
         check = Check(", ".join(names), verdict=NOT_ALLOWED)
         for it in sheet.forbid:
             if it in calls:
-                check.fault = f"{it} is called{f' in line {calls[it]}' if calls[it] else ''}, which this sheet does not allow"
+                check.fault = f"{it} is called{f' in line {calls[it]}' if calls[it] else ''}, but this sheet forbids it"
                 return check
         missing = [it for it in sheet.require if it not in calls]
-        check.fault = f"{missing[0]} is not called, which this sheet asks for" if missing else ""
+        check.fault = f"{missing[0]} is not called, but this sheet requires it" if missing else ""
         return check
 
     def lost(self, why: str) -> List[Check]:
         """What was not looked at."""
         sheet = self.sheet
         of = [sheet.right / len(sheet.runs)] * len(sheet.runs)
-        found = [Check(f"output on {run}", 0, part, "", f"not looked at: {why}") for run, part in zip(sheet.runs, of)]
-        found += [Check(it.formula.text, 0, it.points, "", f"not looked at: {why}") for it in sheet.bounds]
+        found = [Check(f"output on {run}", 0, part, "", f"not checked: {why}") for run, part in zip(sheet.runs, of)]
+        found += [Check(it.formula.text, 0, it.points, "", f"not checked: {why}") for it in sheet.bounds]
         return [*found, *self.others(False)]
 
     # Runs.
@@ -182,7 +182,7 @@ class Marker:
         said = [it for it in ended.errors.splitlines() if it.strip()]
         check.more = [*ended.why, *said[:10]]
         if ended.outcome == LONG:
-            check.verdict, check.fault = FLOOD, f"it prints without an end: {len(ended.output):,} bytes and more"
+            check.verdict, check.fault = FLOOD, f"it does not stop printing: {len(ended.output):,} bytes and more"
         elif ended.outcome == LATE:
             check.verdict, check.fault = ENDLESS, f"it had not ended after {self.sheet.seconds} s: is it an endless loop?"
         elif ended.outcome == BROKEN:
@@ -205,13 +205,13 @@ class Marker:
             if not bound.holds_for(run):
                 continue
             if not are_right[number]:
-                check.fault, check.verdict = f"costs do not count where the run is not right: {run}", ""
+                check.fault, check.verdict = f"costs count only if the run is right, and it is wrong on {run}", ""
                 return check
             values = {**settings_of(run), **self.evidence.runs[number].costs}
             try:
                 found = bound.formula.bound(values, self.wanted[number].costs)
             except (ValueError, KeyError) as error:
-                check.fault = f"{bound.formula.text} comes to nothing on {run}: {error}"
+                check.fault = f"{bound.formula.text} has no value on {run}: {error}"
                 return check
             if not found.is_kept:
                 self.exceeded(check, bound, number, found)
@@ -239,7 +239,7 @@ class Marker:
         if sheet.portable:
             check = Check("portable", 0, sheet.portable_points, NOT_PORTABLE)
             if not are_right or self.evidence.portable is None:
-                check.fault, check.verdict = "not looked at: it is not right everywhere", ""
+                check.fault, check.verdict = "not checked: it is not right everywhere", ""
             elif not self.evidence.is_portable:
                 check.fault, check.more = portable_fault(self.evidence.portable), self.evidence.portable
             else:
@@ -249,7 +249,7 @@ class Marker:
             warnings = [it for it in self.evidence.said if ": warning: " in it]
             check = Check("no warnings", 0, sheet.warning_points, WARNED)
             if not are_right:
-                check.fault, check.verdict = "not looked at: it is not right everywhere", ""
+                check.fault, check.verdict = "not checked: it is not right everywhere", ""
             elif warnings:
                 check.fault, check.more = f"{counted(len(warnings), 'warning')}, the first: {plain(warnings[0])}", warnings
             else:
@@ -295,7 +295,7 @@ def near(where: str) -> str:
 
 def exhausted(ended: Ended) -> str:
     """What is told of a run that came to its limit of instructions."""
-    found = re.match(r"rank (\d+) stopped in superstep (\d+): it made (\d+) instructions", "".join(ended.why[:1]))
+    found = re.match(r"rank (\d+) stopped in superstep (\d+): it executed (\d+) instructions", "".join(ended.why[:1]))
     where = near(detail(ended.why, "at"))
     if found is None:
         return f"it had not ended at the limit of instructions ({ended.outcome}): is it an endless loop?"
@@ -337,7 +337,7 @@ def race_fault(lines: Sequence[str]) -> str:
     told = [f"rank {rank} at {near(place)}" for rank, place in places]
     where = re.search(r"superstep \d+, rank \d+", "\n".join(lines))
     at, by = f" in {where[0]}" if where else "", f": {told[0]}, and {told[1]}" if len(told) > 1 else ""
-    return f"two requests write other bytes to one place{at}{by}"
+    return f"two requests write different bytes to the same place{at}{by}"
 
 
 def portable_fault(lines: Sequence[str]) -> str:

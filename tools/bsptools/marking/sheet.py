@@ -1,4 +1,4 @@
-"""A sheet: what is asked of a hand-in, on which nodes and inputs, what it may cost, and what each part of it is worth."""
+"""A sheet: what a hand-in must do, on which nodes and inputs, what it may cost, and the points of each part."""
 
 from __future__ import annotations
 
@@ -70,7 +70,7 @@ class Run(NamedTuple):
 
 
 class Bound(NamedTuple):
-    """A bound of costs: on which nodes and in which case it holds, all where it says nothing, what it is worth, and a hint."""
+    """A bound of costs: on which nodes and in which case it holds, all if it says nothing, what it is worth, and a hint."""
 
     formula: Formula
     points: float

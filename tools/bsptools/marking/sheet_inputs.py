@@ -1,4 +1,4 @@
-"""The inputs that a sheet asks for: read, or made of a seed."""
+"""The inputs of a sheet: read from files, or made from a seed."""
 
 from __future__ import annotations
 

@@ -1,4 +1,4 @@
-"""The reader of sheets, which says line and column of what is wrong in one."""
+"""The reader of sheets, which reports a mistake with its line and column."""
 
 from __future__ import annotations
 
@@ -119,7 +119,7 @@ class Reader:
         if not has_wanted:
             self.note((), "nothing says what is right: give solution, wanted or checker, or expected for each case")
         if len(sheet.runs) > MOST_RUNS:
-            self.note(("nodes",), f"these are {len(sheet.runs)} runs of each hand-in, and {MOST_RUNS} are the most")
+            self.note(("nodes",), f"these are {len(sheet.runs)} runs of each hand-in; the limit is {MOST_RUNS}")
         if sheet.portable_points and not sheet.portable:
             self.note(("points", "portable"), "points are given for what is not asked: say portable = true")
         if sheet.tolerance and sheet.compare != "numbers":
@@ -291,7 +291,7 @@ class Reader:
         """Points."""
         number = self.number(path, value)
         if number > MOST_POINTS:
-            self.note(path, f"points are {MOST_POINTS} at most")
+            self.note(path, f"points are at most {MOST_POINTS}")
         return number
 
     def whole(self, path: Path, value: Any, least: int, most: int) -> int:
@@ -331,7 +331,7 @@ class Reader:
     def constant(self, path: Path, name: str, value: Any) -> str:
         """The value of a constant, as the compiler takes it."""
         if not NAME.fullmatch(name):
-            self.note(path, f"{name!r} is no name of a constant")
+            self.note(path, f"{name!r} is not the name of a constant")
         if isinstance(value, bool) or not isinstance(value, (int, float, str)) or (isinstance(value, str) and "\0" in value):
             self.note(path, "a constant is a number or a text")
         return str(value)

@@ -1,4 +1,4 @@
-"""Where the keys and values of a TOML document stand: their lines and columns, which the readers of the standard library do not tell."""
+"""The lines and columns of the keys and values of a TOML document, which the standard library does not report."""
 
 from __future__ import annotations
 

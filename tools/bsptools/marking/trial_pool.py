@@ -1,4 +1,4 @@
-"""Tasks that are made side by side, each in a process of its own that this one splits off, which tells by a pipe what came of it."""
+"""Runs tasks in parallel, each in a forked process that returns its result by a pipe."""
 
 from __future__ import annotations
 

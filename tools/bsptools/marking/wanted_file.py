@@ -1,4 +1,4 @@
-"""What is wanted of the runs of a sheet, as a file keeps it for those who do not have the solution."""
+"""The expected results of a sheet in a file, for users who do not have the solution."""
 
 from __future__ import annotations
 

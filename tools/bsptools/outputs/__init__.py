@@ -1,1 +1,1 @@
-"""What a run writes, parted and read: the report, output and records of nodes, contested bytes."""
+"""Readers of what a run writes: the report, output and records of nodes, contested bytes."""

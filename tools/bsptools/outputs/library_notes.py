@@ -1,4 +1,4 @@
-"""What a program's library notes in a run, and the lines that say so at its end."""
+"""The notes that a program's library makes during a run, and the lines about them at its end."""
 
 from __future__ import annotations
 
@@ -71,7 +71,7 @@ class NoteTeller:
         lines = []
         for same in list(kinds.values())[:MOST_TOLD]:
             ranks = len({it.rank for it in same}) - 1
-            more = f", and so {counted(ranks, 'more rank')}" if ranks else ""
+            more = f"; the same on {counted(ranks, 'more rank')}" if ranks else ""
             lines.append(f"bsprun: rank {same[0].rank}, superstep {same[0].superstep}: {self.text(same[0])}{more}")
         return lines + ([f"bsprun: and {len(kinds) - MOST_TOLD} more of this kind"] if len(kinds) > MOST_TOLD else [])
 
@@ -85,8 +85,8 @@ class NoteTeller:
             UNWRITTEN: f"{note.text} was to be written{at}, and --no-files keeps the program from that",
             LOST: f"{note.text} was to be read{at}, and the node had no memory to keep what was written: give --memory",
             EMPTY: f"a number is read{at}, and {what}",
-            READ: f"{note.text.partition(' ')[0]} is read{at}, and does not fit into a long, which has 32 bits here: write long long, %lld and strtoll",
-            CLOCK: f"the time is what the run has cost so far by the model, and no host's: {self.seconds}",
+            READ: f"{note.text.partition(' ')[0]} is read{at}, and does not fit into a long, which has 32 bits here: use long long, %lld and strtoll",
+            CLOCK: f"bsp_time returns the cost of the run so far by the model, not the time of this computer: {self.seconds}",
             STATUS: f"the program ended with status {status}{at}, and so did the run of all ranks",
         }
         return tellers[note.what](note) if note.what in tellers else texts.get(note.what, "a note that is not known")
@@ -119,7 +119,7 @@ class NoteTeller:
 
     def pending(self, note: Note) -> str:
         """Requests that come to nothing."""
-        return f"what was asked for comes to nothing, since no bsp_sync follows: the last of it at {self.place(note.place)}"
+        return f"the last requests have no effect, because no bsp_sync follows; the last one is at {self.place(note.place)}"
 
     def place(self, back: int) -> str:
         """Function and line of the call that goes back to an address."""

@@ -1,4 +1,4 @@
-"""The report behind a program's output, and what its supersteps cost."""
+"""The report after a program's output, and the costs of its supersteps."""
 
 from __future__ import annotations
 
@@ -54,7 +54,7 @@ def lines_from_the_end(written: bytes) -> Iterator[tuple[bytes, int]]:
 
 
 def part(written: bytes) -> tuple[memoryview, Report] | None:
-    """The output and the report of what the emulator wrote; None where no report stands at its end."""
+    """The output and the report of what the emulator wrote; None if no report stands at its end."""
     lines = lines_from_the_end(written if written.endswith(b"\n") else b"")
     outcome, _ = next(lines, (b"", 0))
     total = TOTAL.match(next(lines, (b"", 0))[0])
@@ -83,7 +83,7 @@ class Brief(NamedTuple):
 
 
 def brief(written: bytes) -> Brief | None:
-    """The same of what the emulator wrote without a look at each superstep, of which there may be many; None where no report stands at its
+    """The same of what the emulator wrote without a look at each superstep, of which there may be many; None if no report stands at its
     end."""
     begin = max(written.rfind(BEGIN), 0)
     lines = written[begin:].split(b"\n")
@@ -106,7 +106,7 @@ def checked(report: Report) -> Report:
         if it.end != ("last" if number == last else "turned"):
             raise Unfit(f"superstep {number} ends as {it.end!r}")
     if report.outcome and not (OUTCOME.match(report.outcome.encode(errors="replace")) and "\n" not in report.outcome):
-        raise Unfit(f"{report.outcome!r} is no outcome")
+        raise Unfit(f"{report.outcome!r} is not an outcome")
     w, h = (sum(it.costs[name] for it in report.supersteps) for name in ("w", "h"))
     if report.outcome and not adds_up(report.total - w, h, last + 1):
         raise Unfit(f"the total {report.total} is not that of any prices")

@@ -1,4 +1,4 @@
-"""The files that a program writes, put together from its records and into a folder."""
+"""The files that a program writes, assembled from its records and put into a folder."""
 
 from __future__ import annotations
 
@@ -29,7 +29,7 @@ class Written:
 
     @property
     def parts(self) -> tuple[str, ...]:
-        """The names of the folders that lead to it, and its own, below the folder where files go. Nothing where it would not be below that, or
+        """The names of the folders that lead to it, and its own, below the folder where files go. Nothing if it would not be below that, or
         has no name that a file can have."""
         first, *names = below_here(os.fsdecode(self.name)).split("/")
         found: list[str] = []
@@ -80,7 +80,7 @@ class Files:
                 file[place:end] = content
 
     def resize(self, file: bytearray, size: int) -> bool:
-        """Gives a file so many bytes, new ones of which are 0, where there is room for them."""
+        """Gives a file so many bytes, new ones of which are 0, if there is room for them."""
         more = size - len(file)
         if self.size + more > MOST_WRITTEN:
             self.is_whole = False
@@ -122,7 +122,7 @@ class Files:
                 self.is_put = False
         self.is_put = self.is_put and sum(map(len, found.values())) == len(self.files)
         if not self.is_whole:
-            lines.append(f"not all was written: {MOST_FILES} files and {MOST_WRITTEN} bytes are the most of a run")
+            lines.append(f"not everything was written: the limit of a run is {MOST_FILES} files and {MOST_WRITTEN} bytes")
         return lines[:MOST_LINES] + ([f"and {len(lines) - MOST_LINES} more such lines"] if len(lines) > MOST_LINES else [])
 
 
@@ -155,7 +155,7 @@ def ends_alike(one: bytes, other: bytes) -> bool:
 
 @contextlib.contextmanager
 def opened(folder: Folder, names: Sequence[str]) -> Iterator[int]:
-    """A folder below another one, which is made where it is missing. A link on the way is refused, and not followed."""
+    """A folder below another one, which is made if it is missing. A link on the way is refused, and not followed."""
     place, path = os.open(os.curdir, os.O_RDONLY | os.O_DIRECTORY, dir_fd=folder.number), folder.name
     try:
         for name in names:
@@ -200,4 +200,4 @@ def put_one(folder: Folder, names: tuple[str, ...], parts: list[Written], kept: 
         return []
     ranks = [it.rank for it in parts]
     named = f"{min(ranks)} to {max(ranks)}" if ranks == list(range(min(ranks), max(ranks) + 1)) else ", ".join(map(str, ranks))
-    return [f"{target} was written by {counted(len(ranks), 'rank')}, {named}: their parts stand one behind another"]
+    return [f"{target} was written by {counted(len(ranks), 'rank')}, {named}: their parts follow one another"]

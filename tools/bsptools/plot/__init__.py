@@ -1,1 +1,1 @@
-"""What `bspplot` draws: what a run did, and what it cost."""
+"""`bspplot`: draws what a run did and what it cost."""

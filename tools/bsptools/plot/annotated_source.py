@@ -23,12 +23,12 @@ HEADS = (
 
 STYLE = pathlib.Path(__file__).with_name("annotated.css").read_text(encoding="utf-8")
 SOURCE = (
-    "Beside each line: what it costs by itself, in steps of the slowest ranks, of which w is made; what it costs with the library functions"
+    "Beside each line: what it costs by itself, in steps of the slowest ranks, which add up to w; what it costs with the library functions"
     " that it calls, and the share of w that this is; a bar of what all ranks made there so, each rank with its hue; and a field for each"
     " superstep, the darker the more of that superstep's w is made there. What several lines call is apportioned by numbers of calls. The"
     " pointer on a number, a bar or a field shows more."
 )
-FUNCTIONS = "Functions without lines here, as a library's, the dearest first: what they cost by themselves, and their share of w."
+FUNCTIONS = "Functions without lines here, as a library's, the most expensive first: what they cost by themselves, and their share of w."
 
 
 def groups(count: int, most: int) -> list[range]:
@@ -71,7 +71,7 @@ class Rows:
 
     @staticmethod
     def title(line: Line) -> str:
-        """What is told of a line where there is no room for it."""
+        """What is told of a line if there is no room for it."""
         parts = [f"{line.function}: {line.paid} by itself"]
         if line.with_calls is not None:
             parts.append(f"{line.with_calls} with all that it calls{'' if line.is_exact else ', apportioned'}")

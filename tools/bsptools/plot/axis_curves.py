@@ -1,4 +1,4 @@
-"""The picture of a sweep along any of its columns: lines over an axis of one's choice, in one panel or in several."""
+"""The picture of a sweep along any of its columns, in one panel or several."""
 
 from __future__ import annotations
 

@@ -1,4 +1,4 @@
-"""The map of which program costs least over g and l, with the lines along which two cost the same."""
+"""The map of which program costs least for each g and l, with the lines on which two programs cost the same."""
 
 from __future__ import annotations
 

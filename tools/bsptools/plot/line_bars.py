@@ -28,7 +28,7 @@ def draw(listing: Listing, title: str) -> Picture:
     axes.set_yticks(range(len(lines)), [label(listing, it) for it in lines], fontsize=SMALL, family="DejaVu Sans Mono")
     axes.set_ylim(len(lines) - 0.4, -0.6)
     axes.set_xlim(0, 1.25 * max((float(it.folded) for it in lines), default=1.0))
-    axes.set_xlabel("steps of the slowest ranks, of which w is made; and their share of w")
+    axes.set_xlabel("steps of the slowest ranks, which add up to w; and their share of w")
     whole_numbers(axes, "x")
     made.legend([Patch(color=WORK), Patch(color=WAIT)], ["by itself", "with the library functions that it calls"], 2)
     return made

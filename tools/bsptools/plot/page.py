@@ -22,11 +22,11 @@ STYLE = "\n" + pathlib.Path(__file__).with_name("page.css").read_text(encoding="
 TIMELINE = (
     "A superstep begins for all ranks together. Each rank works (blue) until it calls sync or ends, and then waits (grey) for the slowest"
     " one, whose work is w. Then the bytes are exchanged, which takes g·h ticks, and all ranks wait for one another, which takes l."
-    " A line parts two supersteps. Little grey means that the work is shared evenly."
+    " A line separates two supersteps. Little grey means that the work is shared evenly."
 )
 COSTS = "Each superstep costs w + g·h + l ticks. The greatest of the three parts is the one to make smaller."
 LINES = (
-    "What the dearest lines cost, in steps of the slowest ranks, of which w is made: by themselves (blue), which is exact, and with the"
+    "What the most expensive lines cost, in steps of the slowest ranks, which add up to w: by themselves (blue), which is exact, and with the"
     " library functions that they call (grey), whose work is apportioned by numbers of calls where several lines called them."
 )
 MATRIX = (
@@ -40,7 +40,7 @@ SWEEP = (
     " far as from 2 to 4."
 )
 COMPARE = (
-    "The same totals, on logarithmic axes: equal steps are equal factors. A dotted line stands at the first number of nodes at which a"
+    "The same totals, on logarithmic axes: equal steps are equal factors. A dotted line marks the first number of nodes at which a"
     " program costs less than another one that was cheaper on fewer."
 )
 
@@ -75,7 +75,7 @@ def table(heads: Sequence[str], rows: Sequence[Sequence[object]]) -> str:
 
 
 def cut(rows: list[list[object]]) -> tuple[list[list[object]], str]:
-    """The first rows, and a text that says so where there are more."""
+    """The first rows, and a text that says so if there are more."""
     return rows[:MOST_ROWS], f" The first {MOST_ROWS} of {len(rows)} are shown." if len(rows) > MOST_ROWS else ""
 
 
@@ -98,7 +98,7 @@ def cost_table(costs: list[Cost], profile: Profile | None, prices: Prices, readi
             moved = sum(share.sent + (share.kept if reading is Reading.ALL else 0) for share in it.shares)
             messages = sum(share.messages for share in it.shares)
             row += [f"rank {it.slowest}", f"{it.balance:.2f}", thousands(moved), thousands(messages)]
-        text += " The slowest rank is the one that makes w. The balance is the mean work of the ranks divided by w: 1 where all work alike."
+        text += " The slowest rank is the one that makes w. The balance is the mean work of the ranks divided by w: 1 if all work alike."
     shown, more = cut(rows)
     return Section("The table", text + more, table(heads, shown))
 

@@ -1,4 +1,4 @@
-"""What a sweep looks like in a paper: curves along any column, maps of what costs least, and tables, each in the format of its file."""
+"""A sweep for a paper: curves along any column, maps of the cheapest program, and tables, each in the format of its file."""
 
 from __future__ import annotations
 

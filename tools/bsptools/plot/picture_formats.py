@@ -1,4 +1,4 @@
-"""The file formats of pictures, what they say of themselves, and how a command line spells sizes and ranges.
+"""The file formats of pictures, their metadata, and how a command line spells sizes and ranges.
 
 None of this needs matplotlib, so that a wrong command line is refused without it.
 """

@@ -1,4 +1,4 @@
-"""Where a picture comes from, as its file says: what has drawn it and how, and the file that it was drawn from."""
+"""The origin of a picture, as its file records it: the command that drew it, and its input."""
 
 from __future__ import annotations
 

@@ -31,7 +31,7 @@ class Share(NamedTuple):
 
     ticks are its instructions; sent and received are bytes to and from other ranks, and kept those that it moved to itself; messages
     came from other ranks; requests are the puts, gets and messages that it asked for; state is how it stood at the end. printed are the
-    ticks in output functions, 0 where they were not counted.
+    ticks in output functions, 0 if they were not counted.
     """
 
     ticks: int
@@ -78,7 +78,7 @@ class Superstep:
 
     @property
     def balance(self) -> float:
-        """The mean of the ranks' instructions by the most of them: 1 where all work alike, 1/p where one rank works alone."""
+        """The mean of the ranks' instructions by the most of them: 1 if all work alike, 1/p where one rank works alone."""
         return sum(it.ticks for it in self.shares) / len(self.shares) / self.w if self.w else 1.0
 
 
@@ -150,7 +150,7 @@ def add(supersteps: list[Superstep], row: list[str], columns: int) -> None:
     elif rank == len(now.shares) and not now.transfers:
         ticks, sent, received, kept, messages, requests = (whole(it, MOST_TICKS) for it in row[3:9])
         if row[9] not in STATES:
-            raise Unfit(f"{row[9]!r} is no state of a rank")
+            raise Unfit(f"{row[9]!r} is not a state of a rank")
         printed = whole(row[10], ticks) if columns > len(HEADER) else 0
         now.shares.append(Share(ticks, sent, received, kept, messages, requests, row[9], printed))
     else:

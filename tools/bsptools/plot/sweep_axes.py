@@ -1,4 +1,4 @@
-"""The table of a sweep along any of its columns: what is on each axis, which points make a line, and what does not fit."""
+"""The table of a sweep along any of its columns: the axes, which points form a line, and what does not fit."""
 
 from __future__ import annotations
 
@@ -88,7 +88,7 @@ class Frame:
             raise Refused(f"the table has no column {name}: it has {', '.join(self.columns)}")
 
     def cell(self, row: Row, name: str) -> str:
-        """What a row has in a column. g and l of a machine are its own on each number of nodes, and part no lines."""
+        """What a row has in a column. g and l of a machine differ for each number of nodes, and part no lines."""
         if name == PROGRAM:
             return self.programs[row.program]
         if name == NODES:
@@ -112,14 +112,14 @@ class Frame:
         cell = self.cell(row, self.axes.x)
         found = number(cell)
         if found is None:
-            own = f"the prices of {row.machine} are its own on each number of nodes" if row.machine and self.axes.x in PRICES else ""
+            own = f"the prices of {row.machine} differ for each number of nodes" if row.machine and self.axes.x in PRICES else ""
             raise Refused(f"--x {self.axes.x}: {own or f'{cell!r} is not a number'}; {self.fitting()}")
         return found
 
     def fitting(self) -> str:
         """What can be along the axis below."""
         found = [it for it in self.varying() if all(number(self.cell(row, it)) is not None for row in self.rows)]
-        return f"what fits: --x {' or --x '.join(found)}" if found else "no column of it has several numbers"
+        return f"use --x {' or --x '.join(found)}" if found else "no column of it has several numbers"
 
     def expect_several(self) -> None:
         """Refuses an axis with one place, on which all points would stand one above the other."""

@@ -23,6 +23,7 @@ CALLS = ord("c")
 DIRECT_GET, READ, WRITTEN, NO_MESSAGE, INPUT = 110, 111, 112, 115, 118
 # Accesses of a rank to bytes of an unbuffered call.
 ACCESSES = (READ, WRITTEN)
+UNBUFFERED = (environment_calls.HPPUT, environment_calls.HPGET)
 KINDS = {
     environment_calls.PUT: exposed_bytes.PUT, environment_calls.GET: exposed_bytes.GET, environment_calls.HPPUT: exposed_bytes.HPPUT,
     environment_calls.HPGET: exposed_bytes.HPGET, SEND: exposed_bytes.SEND, DIRECT_GET: exposed_bytes.DIRECT_GET,
@@ -52,12 +53,29 @@ class Logged(NamedTuple):
 
 
 @dataclass
+class Areas:
+    """The areas of each rank, as the addresses of what it has registered, in this order. Supersteps share them until they change."""
+
+    starts: Dict[int, List[int]] = field(default_factory=dict)
+
+    @functools.cached_property
+    def last(self) -> Dict[int, Dict[int, int]]:
+        """By ranks and addresses, the number of the last registration."""
+        return {rank: {start: number for number, start in enumerate(starts)} for rank, starts in self.starts.items()}
+
+    def start(self, rank: int, name: int, other: int) -> int | None:
+        """Where the area lies at another rank that a rank calls by an address of its own: that of the last registration there."""
+        number, there = self.last.get(rank, {}).get(name), self.starts.get(other, ())
+        return there[number] if number is not None and number < len(there) else None
+
+
+@dataclass
 class Superstep:
-    """The records of calls of each rank in a superstep, which are read where they are asked for; the areas of each rank in it, as the
-    addresses of what it has registered, and the sizes of its tags."""
+    """The records of calls of each rank in a superstep, which are read only if they are asked for; the areas of each rank in it, and the sizes
+    of its tags."""
 
     records: Dict[int, bytearray] = field(default_factory=dict)
-    areas: Dict[int, List[int]] = field(default_factory=dict)
+    areas: Areas = field(default_factory=Areas)
     tag_sizes: Dict[int, int] = field(default_factory=dict)
 
     @functools.cached_property
@@ -84,7 +102,7 @@ class Superstep:
     @property
     def has_unbuffered(self) -> bool:
         """Whether a call of the superstep is unbuffered."""
-        return not self.numbers.isdisjoint((environment_calls.HPPUT, environment_calls.HPGET))
+        return not self.numbers.isdisjoint(UNBUFFERED)
 
     def most_sent(self) -> int:
         """How many messages come to one rank, where most do."""
@@ -102,10 +120,21 @@ class Superstep:
         return {rank: [it for it in made if it.number in REQUESTS] for rank, made in self.calls.items()}
 
     def area(self, it: Logged, name: int) -> int | None:
-        """Where the area lies at the other rank that a call names by an address of its own: that of the last registration there."""
-        here, there = self.areas.get(it.rank, []), self.areas.get(it.pid, [])
-        at = next((i for i in range(len(here) - 1, -1, -1) if here[i] == name), None)
-        return there[at] if at is not None and at < len(there) else None
+        """Where the area lies at the other rank that a call names by an address of its own."""
+        return self.areas.start(it.rank, name, it.pid)
+
+    def unbuffered_areas(self) -> Dict[int, List[Tuple[int, int]]]:
+        """By ranks, from where to where the bytes lie there that unbuffered calls name in areas. It makes no object of each call."""
+        found: Dict[int, List[Tuple[int, int]]] = {rank: [] for rank in self.areas.starts}
+        for rank, content in self.records.items():
+            last = self.areas.last.get(rank, {})
+            for number, _, pid, src, dst, offset, nbytes, _ in CALL.iter_unpack(content):
+                if number in UNBUFFERED and nbytes > 0:
+                    area, there = last.get(dst if number == environment_calls.HPPUT else src), self.areas.starts.get(pid, ())
+                    if area is not None and area < len(there):
+                        start = there[area] + offset
+                        found[pid].append((start, start + nbytes))
+        return found
 
     def written(self, it: Logged) -> Bytes | None:
         """The bytes that a put or a get writes."""
@@ -152,15 +181,15 @@ def supersteps(pieces: Iterable[bytes], last: int) -> List[Superstep]:
 
 def _register(found: List[Superstep]) -> None:
     """Finds areas and sizes of tags in each superstep: what is registered or set takes effect in the next one."""
-    areas: Dict[int, List[int]] = {}
+    areas = Areas()
     sizes: Dict[int, int] = {}
     for superstep in found:
         superstep.areas, superstep.tag_sizes = areas, sizes
         if superstep.numbers.isdisjoint((PUSH, POP, TAGSIZE)):
             continue
-        areas, sizes = {rank: list(it) for rank, it in areas.items()}, dict(sizes)
+        areas, sizes = Areas({rank: list(it) for rank, it in areas.starts.items()}), dict(sizes)
         for it in superstep.all():
-            here = areas.setdefault(it.rank, [])
+            here = areas.starts.setdefault(it.rank, [])
             if it.number == TAGSIZE:
                 sizes[it.rank] = it.nbytes
             elif it.number == PUSH:

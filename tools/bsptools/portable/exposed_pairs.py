@@ -12,7 +12,7 @@ from typing import Dict, FrozenSet, List, NamedTuple, Set, Tuple
 
 from ..outputs import exposed_ranges
 from . import exposed_bytes
-from .call_log import Logged, Superstep
+from .call_log import DIRECT_GET, Logged, Superstep
 from .exposed_bytes import Exposed
 
 
@@ -43,11 +43,14 @@ class Pairs:
         return list(left.values())
 
 
-def pairs(steps: Sequence[Superstep]) -> Pairs:
-    """The pairs of places that expose bytes, in the order of the first of each."""
+def pairs(steps: Sequence[Superstep], known: exposed_ranges.Found) -> Pairs:
+    """The pairs of places that expose bytes, in the order of the first of each. The emulator, if it has found all that its calls expose, has
+    named the supersteps: only bsp_direct_get is no call of it."""
     found = Pairs()
+    named = {row.superstep for row in known.rows}
+    end = len(steps) if known.is_whole else known.rows[-1].superstep if known.rows else 0
     for superstep, step in enumerate(steps):
-        if step.has_unbuffered:
+        if step.has_unbuffered and (superstep in named or superstep >= end or DIRECT_GET in step.numbers):
             for pair, it in exposed_in(superstep, step):
                 found.places.setdefault(pair, it)
                 found.functions.add((superstep, frozenset((it.found.reader.kind, it.found.writer.kind))))

@@ -1,1 +1,1 @@
-"""Programs made ready to run: compiled, with their settings and their input."""
+"""Prepares programs to run: compiles them, and adds settings and input."""

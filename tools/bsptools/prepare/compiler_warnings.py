@@ -1,4 +1,4 @@
-"""What GCC says of a program, without what is no mistake where `int` and `long` have the same size."""
+"""GCC's warnings, without those that do not matter if `int` and `long` have the same size."""
 
 from __future__ import annotations
 

@@ -1,4 +1,4 @@
-"""The texts of a program's sources, and of what they include."""
+"""The text of a program's sources and of the files that they include."""
 
 from __future__ import annotations
 

@@ -1,1 +1,1 @@
-"""What `bspprobe` does: it measures a host, and finds its r, g and l."""
+"""`bspprobe`: measures r, g and l of a host."""

@@ -1,4 +1,4 @@
-"""What was found of a host: r, g and l, each with its interval of confidence."""
+"""The result for a host: r, g and l, each with its confidence interval."""
 
 from __future__ import annotations
 

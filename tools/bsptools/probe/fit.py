@@ -1,4 +1,4 @@
-"""r, g and l of what was measured: the line that fits the times of h-relations best, with intervals of confidence."""
+"""Computes r, g and l from measurements: the best line through the times of h-relations, with confidence intervals."""
 
 from __future__ import annotations
 

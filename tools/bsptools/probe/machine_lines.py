@@ -1,4 +1,4 @@
-"""Lines of the machines' file, of what was measured."""
+"""Lines for a file of machines, from measurements."""
 
 from __future__ import annotations
 
@@ -29,7 +29,7 @@ def of(name: str, found: Fit, how: str) -> str:
     source = " ".join(f"{host()}, {date}, {how}; 95 %: {intervals}".split())
     line = f"{name}-{found.p}  {found.p}  {found.rate.value:.4g}  {found.g.value:.4g}  {found.l.value:.4g}  {found.word}  {source}"
     if machines.machine_of(line) is None:
-        raise Refused(f"p = {found.p}: no machine can have these figures: {line}", "the host may have been too busy: measure again with more --rounds")
+        raise Refused(f"p = {found.p}: the measured figures are impossible: {line}", "the host may have been too busy: measure again with more --rounds")
     return line
 
 

@@ -1,4 +1,4 @@
-"""Runs of the program that measures, on each number of processes: one that is compiled for this host, or one that the person has."""
+"""Runs the measuring program on each number of processes: one compiled for this host, or the user's own."""
 
 from __future__ import annotations
 

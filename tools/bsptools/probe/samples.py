@@ -60,14 +60,14 @@ def _one(lines: list[str]) -> Samples:
         elif len(words) == 2 and words[0] in GIVEN:
             given[words[0]] = int(words[1])
         else:
-            raise Unread(f"{line[:80]!r} is no line that is expected there")
+            raise Unread(f"{line[:80]!r} is not expected there")
     raise Unread("its last line is missing")
 
 
 def _positive(word: str) -> float:
     value = float(word)
     if not 0.0 < value < 1e18:
-        raise Unread(f"{word} is no rate and no time: the clock of this BSPlib may be too coarse for --milliseconds")
+        raise Unread(f"{word} is neither a rate nor a time: the clock of this BSPlib may be too coarse for --milliseconds")
     return value
 
 

@@ -1,1 +1,1 @@
-"""What a program is: its ELF file or text, its code, the names and lines of its addresses."""
+"""A program: its ELF file or text, its code, and the names and lines of its addresses."""

@@ -1,1 +1,1 @@
-"""Reverse execution: a machine that goes to any place of its run, and what was done before that place."""
+"""Reverse execution: a machine that goes to any place of its run, and finds what was done before."""

@@ -1,4 +1,4 @@
-"""Where a machine stands, and where it arrives when it goes on."""
+"""The place of a machine in its run, and where it arrives when it continues."""
 
 from __future__ import annotations
 

@@ -1,4 +1,4 @@
-"""What was asked for in supersteps, and where it landed, found by making them again."""
+"""The requests of supersteps and where they landed, found by running the supersteps again."""
 
 from __future__ import annotations
 

@@ -1,4 +1,4 @@
-"""What the last instructions of a rank have overwritten, so that it can go back over them."""
+"""The values that the last instructions of a rank have overwritten, so that it can go back over them."""
 
 from __future__ import annotations
 

@@ -1,4 +1,4 @@
-"""The lines that say who wrote bytes, and what was asked for in a superstep."""
+"""The lines that say who wrote bytes, and what was requested in a superstep."""
 
 from __future__ import annotations
 
@@ -80,14 +80,14 @@ class PastTeller:
             return "never written: as the image has it" if self._is_in_image(addr) else "never written: 0 from the start"
         return (
             f"not written in the last {counted(found.instructions, 'instruction')} of rank {rank}, back into superstep {found.superstep};"
-            f" what was before is not looked at: {self._advice(rank, found.superstep, found.into)}"
+            f" what was before is not checked: {self._advice(rank, found.superstep, found.into)}"
         )
 
     def _is_in_image(self, addr: int) -> bool:
         return any(start <= addr < start + len(content) for start, content in self._names.code.segments)
 
     def _writer(self, search: Search, rank: int, writer: Writer, number: int) -> Tuple[str, str]:
-        """What is told of a writer, and the address of the instruction where that is the rank's own."""
+        """What is told of a writer, and the address of the instruction if that is the rank's own."""
         if isinstance(writer, Made):
             source = f" from rank {writer.call.operand('pid')}" if writer.call.number in GETS else ""
             text = f"{called(writer)}{source} by rank {writer.rank}, at the end of superstep {writer.superstep}"
@@ -134,7 +134,7 @@ class PastTeller:
         head = f"superstep {superstep}: {counted(len(made), 'request')}{whose}{' so far' if is_now else ''}"
         most = MOST_SENT if rank is None else len(made)
         more = len(made) - most
-        rest = [f"and {more} more, from rank {made[most].rank} on: {self._verb} {superstep} from R tells all of rank R"] if more > 0 else []
+        rest = [f"and {more} more, from rank {made[most].rank} on: {self._verb} {superstep} from R shows all of rank R"] if more > 0 else []
         return [head, *map(self._request, made[:most]), *rest]
 
     def _request(self, made: Made) -> str:

@@ -1,1 +1,1 @@
-"""What `bsprun` does with a run: watches it, ends it, and says what came of it."""
+"""`bsprun` and its run: watches it, ends it, and reports the result."""

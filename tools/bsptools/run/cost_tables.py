@@ -1,4 +1,4 @@
-"""The tables of `--lines`: work by line and by function, and where h comes from; and its files."""
+"""The tables and files of `--lines`: work by line and by function, and the source of h."""
 
 from __future__ import annotations
 
@@ -21,10 +21,10 @@ MOST_LINES, MOST_FUNCTIONS, MOST_PLACES, MOST_SUPERSTEPS, MOST_PARTS = 20, 15, 1
 # Of a line's text.
 MOST_LETTERS = 60
 EXPLAINED = (
-    "paid: instructions of the rank that was the slowest in its superstep, of which w is made; all ranks: of all of them. Both are exact.",
-    "with calls: what is paid there and in what is called from there; exact, or, behind ~, apportioned by numbers of calls",
+    "paid: instructions of the slowest rank of each superstep, which add up to w; all ranks: instructions of all ranks. Both are exact.",
+    "with calls: paid there and in the functions that it calls; exact, or, after a ~, apportioned by numbers of calls",
 )
-FOLDED = ("the work of library functions stands at the lines that called them, apportioned by numbers of calls where several lines did",)
+FOLDED = ("the work of library functions is added to the lines that called them, apportioned by numbers of calls if several lines did",)
 HEADS = ("paid", "of w", "of total", "with calls", "all ranks")
 
 
@@ -115,7 +115,7 @@ class Told:
         ]
         most = sorted(relations, key=lambda it: (-it.h, it.superstep))[:MOST_SUPERSTEPS]
         return [
-            f"bsprun: where h comes from, by line: h {h} in all, of the rank that sends or receives most in its superstep",
+            f"bsprun: where h comes from, by line: h {h} in all, of the rank that sends or receives most in each superstep",
             *aligned(("bytes", "of h", "requests"), rows[:MOST_PLACES]),
             *map(told, most),
         ]
@@ -169,8 +169,8 @@ class Measured:
         lines = told.lines(is_folded) + (told.exchanged(self.relations) if self.relations else [])
         missing = sum(it.costs["h"] > 0 for it in self.report.supersteps) - len(self.relations)
         if missing:
-            why = f"{self.traffic.stops} calls of BSPlib are too many to look at"
-            lines.append(f"bsprun: where h comes from is not told of {counted(missing, 'superstep')}: {why}")
+            why = f"{self.traffic.stops} calls of BSPlib are too many to check"
+            lines.append(f"bsprun: where h comes from is unknown for {counted(missing, 'superstep')}: {why}")
         return lines
 
     def write(self, kind: str, path: str) -> list[str]:

@@ -1,4 +1,4 @@
-"""The status that a program chose by exit, with which `bsprun` ends if no node failed."""
+"""The exit status of a program, with which `bsprun` ends if no node failed."""
 
 from __future__ import annotations
 

@@ -1,4 +1,4 @@
-"""Files that a program asks for by a name that nobody gave, and that are here: a run is made again with them, since it is the same each time."""
+"""Files that a program opens and nobody gave, but that exist here: the run is repeated with them."""
 
 from __future__ import annotations
 

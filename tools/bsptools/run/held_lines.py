@@ -1,4 +1,4 @@
-"""What nodes have printed of a line whose end they did not come to, in a run that was stopped: it stands in their memories."""
+"""Unfinished output lines of nodes in a run that was stopped, read from their memories."""
 
 from __future__ import annotations
 

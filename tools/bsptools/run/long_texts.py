@@ -1,4 +1,4 @@
-"""Texts in C that may compute in a type which has 32 bits here and 64 elsewhere."""
+"""C sources that may compute in a type that has 32 bits here and 64 elsewhere."""
 
 from __future__ import annotations
 

@@ -1,4 +1,4 @@
-"""The output of a run that is made again: what an earlier attempt has written is not written once more."""
+"""The output of a repeated run, without what an earlier attempt has already written."""
 
 from __future__ import annotations
 

@@ -1,4 +1,4 @@
-"""The summary of a run: its totals, and the lines that end its most expensive supersteps."""
+"""The summary of a run: its totals, and its most expensive supersteps."""
 
 from __future__ import annotations
 

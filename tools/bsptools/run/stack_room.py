@@ -1,4 +1,4 @@
-"""The room of the stack that suffices for a program whose stack was too deep: it is built with more, and what it uses of that is measured."""
+"""Finds how much stack a program needs after a stack overflow: builds it with more, and measures its use."""
 
 from __future__ import annotations
 
@@ -25,7 +25,7 @@ NULL_BYTES = 64
 # For how long this may take.
 MOST_SECONDS = 20
 # What is said of such a program, and the part of it that is a guess.
-TOO_DEEP, GUESS = "the stack is too deep: ", re.compile(r"give --stack \w+, of an ELF file to bspcc,")
+TOO_DEEP, GUESS = "stack overflow: ", re.compile(r"give --stack \w+, of an ELF file to bspcc,")
 
 
 def with_advice(job: Job, lines: list[str]) -> list[str]:
@@ -37,7 +37,7 @@ def with_advice(job: Job, lines: list[str]) -> list[str]:
 
 
 def advice(job: Job) -> str:
-    """What to give where the stack of a job is too deep; nothing where that was not found."""
+    """What to give where the stack of a job is too deep; nothing if that was not found."""
     top, rest = job.code.names.get("__stack_top", 0), job.code.need - job.code.names.get("__stack_top", 0)
     most = (job.options.memory - rest) * 3 // 4 // UNIT * UNIT
     with contextlib.suppress(children.TooLate, Refused, OSError, subprocess.SubprocessError), children.within(MOST_SECONDS):
@@ -45,8 +45,8 @@ def advice(job: Job) -> str:
             used = used_of(job, room) if room > top else None
             if used is not None:
                 wanted = -(-(used + used // SPARE) // UNIT) * UNIT
-                return f"it uses {used} bytes of a larger one: give --stack {size_text(wanted)}{to_whom(job)}"
-        return f"{size_text(most)} do not suffice either: end the recursion" if most > top else ""
+                return f"the program uses {used} bytes of a larger one: give --stack {size_text(wanted)}{to_whom(job)}"
+        return f"{size_text(most)} are not enough either: end the recursion" if most > top else ""
     return ""
 
 
@@ -56,7 +56,7 @@ def to_whom(job: Job) -> str:
 
 
 def used_of(job: Job, room: int) -> int | None:
-    """How many bytes of a stack with so much room are used by the rank that uses most; nothing where that does not suffice, or nobody knows."""
+    """How many bytes of a stack with so much room are used by the rank that uses most; nothing if that does not suffice, or nobody knows."""
     with children.folder("bsprun") as folder:
         image = folder / "deep.elf"
         words = build_of(job, room, image)

@@ -29,7 +29,7 @@ from .stop_words import stop_words
 
 # The files of the page, below the folder of the repository, and its scripts in the order in which they stand there.
 FOLDER, MODULE, INTERFACE, PACKED = "web/stage", "prebuilt/bspemu.wasm", "web/bspemu.js", "web/page/packed.js"
-SCRIPTS = "parts machine names values calls recorded boxes stops arrows listing costs stage words moves begin".split()
+SCRIPTS = "parts machine names values calls recorded boxes stops arrows listing costs view stage traffic words moves begin".split()
 MOST_FILE = 1 << 24
 # More nodes have no profile.
 MOST_NODES = 1024

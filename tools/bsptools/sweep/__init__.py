@@ -1,1 +1,1 @@
-"""What `bspsweep` does: runs of programs over lists of settings, and their table."""
+"""`bspsweep`: runs programs over lists of settings, and writes their table."""

@@ -1,4 +1,4 @@
-"""Who makes the runs: GNU parallel, Slurm, or the shell.
+"""The engines that start the runs: GNU parallel, Slurm, or the shell.
 
 GNU parallel makes them here and over hosts, Slurm as an array of jobs, the shell one after another. Each is given a file with a command in
 each line.

@@ -1,4 +1,4 @@
-"""What runs gave, each in a file named by all that the run depends on, so that none is made twice."""
+"""Results of runs, each in a file that is named by everything the run depends on, so that no run is repeated."""
 
 from __future__ import annotations
 
@@ -44,7 +44,7 @@ class Place(NamedTuple):
         return os.path.lexists(self.file("failed", copy)) or self.found(copy) is not None
 
     def found(self, copy: str = MAIN) -> Record | None:
-        """What came of it; nothing where it was not made, or what is kept is not what was written."""
+        """What came of it; nothing if it was not made, or what is kept is not what was written."""
         record: Record | None = sealed_results.found(self.file("json", copy), self.folder.name)
         return record
 

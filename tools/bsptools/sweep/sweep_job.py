@@ -1,4 +1,4 @@
-"""One run of a sweep, on whichever host it is made."""
+"""One run of a sweep, on any host."""
 
 from __future__ import annotations
 
@@ -63,7 +63,7 @@ def changed(job: dict[str, Any]) -> str:
     """A line where a file that a run rests on is not what it was when the sweep began."""
     for path, known in job["digests"]:
         if digest(content_of(os.path.join(job["folder"], path), MOST_PROGRAM)) != known:
-            return f"{path} is not what it was when the sweep began: begin it once more\n"
+            return f"{path} has changed since the sweep began: start the sweep again\n"
     return ""
 
 

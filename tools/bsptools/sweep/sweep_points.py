@@ -1,4 +1,4 @@
-"""The points of a sweep: which runs are made, and at which prices each is told."""
+"""The points of a sweep: which runs it makes, and for which prices it reports each."""
 
 from __future__ import annotations
 

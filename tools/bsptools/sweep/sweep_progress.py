@@ -1,4 +1,4 @@
-"""How far a sweep is: what is done, what is left, and which run took longest."""
+"""The progress of a sweep: runs done, runs left, and the longest run."""
 
 from __future__ import annotations
 

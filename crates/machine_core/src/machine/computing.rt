@@ -1,4 +1,4 @@
-//! The row of a machine, lent: the nodes go to a caller, who takes them through local steps and gives them back.
+//! Lends the nodes of a machine to a caller, who makes local steps with them and gives them back.
 
 ghost use Rattle.std.specs.Prelude.{◌≡◌};
 ghost use Rattle.bsp_exchange.specs.Exchange.{states};

@@ -1,4 +1,4 @@
-//! The turn's second half: the row comes back, and the machine's next superstep begins, or the turn is called off.
+//! The second half of a turn: the nodes come back, and the next superstep begins or the turn is called off.
 
 ghost use Rattle.std.specs.Prelude.{◌≡◌, None};
 ghost use Rattle.bsp_exchange.specs.Exchange.{states};

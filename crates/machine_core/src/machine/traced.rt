@@ -14,7 +14,7 @@ impl<A: Allocator + Copy> Machine<A> {
     /// the first one first: pc before the step. How many it made. Of a rank that is absent there are none.
     ///
     /// # Errors
-    /// Where memory is refused in a step, as [`Machine::run_node`] says.
+    /// If memory is refused in a step, as [`Machine::run_node`] says.
     pub fn run_node_traced(&mut self, rank: u32, pcs: &mut [u32]) -> Result<usize, AllocError>
         ensures steps { AreStepsMade rank (length pcs.old) self.old self.new result }
         ensures addresses { IfOk result (HoldAddresses (next_addresses_at self.old.input rank (length pcs.old) self.old.nodes) pcs.new) }

@@ -1,4 +1,4 @@
-//! The turn, at once or in two halves, between which the nodes are prepared for the parts of their exchange, and these land.
+//! The turn, at once or in two halves. Between the halves, the nodes are prepared for the parts of their exchange, and the parts land.
 
 ghost use Rattle.std.specs.Prelude.{◌≡◌, true};
 ghost use Rattle.machine_core.specs.declared.event.Event.TheVariants.{Turn as the_turn};
@@ -68,11 +68,11 @@ impl<A: Allocator + Copy> Machine<A> {
         }
     }
 
-    /// Begins the turn, and hands its exchange out: a [`Part`] for each node, for which [`Part::prepare`] makes the node ready, and
-    /// which [`Part::land`] takes into it, in whichever thread. [`ExchangingMachine::finish`] makes the machine whole again when all parts
-    /// have landed. Where no exchange is made, it is whole at once.
+    /// Begins the turn, and hands its exchange out: a [`Part`] for each node, for which [`Part::prepare`] makes the node ready, and which
+    /// [`Part::land`] takes into it, in whichever thread. [`ExchangingMachine::finish`] makes the machine whole again when all parts have
+    /// landed. If no exchange is made, it is whole at once.
     ///
-    /// What is still asked for after this is the memory of each node that is prepared. Where that is refused, and no part has landed,
+    /// What is still asked for after this is the memory of each node that is prepared. If that is refused, and no part has landed,
     /// [`ExchangingMachine::call_off`] leads back to the machine before the turn. When all nodes are prepared, nothing can be refused any
     /// more.
     pub fn begin_turn(self) -> Begun<A>

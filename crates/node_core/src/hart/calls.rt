@@ -1,7 +1,7 @@
 //! The environment calls: an ECALL makes the one whose number is in a7 (x17), with operands from a0 (x10) on.
 //!
-//! Here are the calls that concern the node alone. Each tests its operands in the order of its checks before it changes
-//! anything, and asks for memory only where all of them pass.
+//! Here are the calls that concern the node alone. Each checks its operands in order before it changes anything, and requests memory only
+//! if all checks pass.
 
 ghost use Rattle.std.specs.Prelude.{◌≡◌, [], IfOk, OnErr};
 ghost use Rattle.node_memory.specs.Pages.{KeepsPrivate};

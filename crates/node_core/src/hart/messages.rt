@@ -1,5 +1,5 @@
-//! The calls that read what was received (BSPlib, Hill and others 1998: `bsp_qsize`, `bsp_get_tag`, `bsp_move`). They
-//! store, and so take memory where a page into which they store is shared.
+//! The calls that read what was received (BSPlib, Hill and others 1998: `bsp_qsize`, `bsp_get_tag`, `bsp_move`). They store, and so take
+//! memory if a page that they write is shared.
 
 ghost use Rattle.std.specs.Prelude.{◌≡◌, ◌^◌, ◌<◌, ◌&&◌, ◌↔◌, false, [], length, drop, OnOk, OnErr, IfOk, IsErrOf};
 ghost use Rattle.node_memory.specs.Bytes.{fits, with_bytes};

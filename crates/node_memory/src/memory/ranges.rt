@@ -1,4 +1,4 @@
-//! What is read by ranges, page by page.
+//! Reads of ranges, page by page.
 
 ghost use Rattle.std.specs.Prelude.{◌≡◌, ◌≤◌, ◌++◌, IsTrue, length, take, OnOk, OnErr, IfOk, IfSome};
 ghost use Rattle.node_memory.specs.Access.{IsRead};
@@ -16,7 +16,7 @@ impl<A: Allocator> Memory<A> {
     /// Appends a copy of the `len` bytes from `addr` on, which lie in the memory, to `bytes`.
     ///
     /// # Errors
-    /// Where memory is refused. `bytes` has then the elements that it had.
+    /// If memory is refused. `bytes` has then the elements that it had.
     pub fn append_range<B: Allocator>(
         &self,
         addr: u32,
@@ -33,7 +33,7 @@ impl<A: Allocator> Memory<A> {
         }
     }
 
-    /// The `len` bytes from `addr` on, which lie in the memory, where there are some and one page has them all.
+    /// The `len` bytes from `addr` on, which lie in the memory, if there are some and one page has them all.
     fn within_page(&self, addr: u32, len: u32) -> Option<&[u8]>
         requires { IsTrue (fits (length self.now.bytes) addr len) }
         ensures { IfSome result (λ part. part.now ≡ bytes_at self.now.bytes addr len) }
@@ -46,8 +46,8 @@ impl<A: Allocator> Memory<A> {
         }
     }
 
-    /// Sixteen bytes of which the first are the `len` bytes from `addr` on, which lie in the memory: where these are some and at most 16,
-    /// and stand at least 16 before the end of their page.
+    /// Sixteen bytes of which the first are the `len` bytes from `addr` on, which lie in the memory: if these are some and at most 16, and
+    /// stand at least 16 before the end of their page.
     // For speed: a value of a known size is copied without a call, and by whoever gets it, so that it is copied once.
     #[inline(always)]
     pub fn read_16(&self, addr: u32, len: u32) -> Option<&[u8; 16]>
@@ -103,8 +103,8 @@ impl<A: Allocator + Copy> Memory<A> {
         }
     }
 
-    /// A copy of the `first_len` bytes from `first` on, and behind them of the `second_len` bytes from `second` on, which can be shared. Both
-    /// ranges lie in the memory.
+    /// A copy of the `first_len` bytes from `first` on, and after them of the `second_len` bytes from `second` on, which can be shared.
+    /// Both ranges lie in the memory.
     ///
     /// # Errors
     /// If memory is refused.
@@ -147,8 +147,8 @@ impl<A: Allocator + Copy> Memory<A> {
         }
     }
 
-    /// The `len` bytes from `addr` on, which lie in the memory, where they are few, and stand so far before the end of their page that as
-    /// many as few may be do.
+    /// The `len` bytes from `addr` on, which lie in the memory, if they are few, and stand so far before the end of their page that as many
+    /// as few may be do.
     #[inline(always)]
     fn read_few(&self, addr: u32, len: u32) -> Option<SharedBytes<A>>
         requires { IsTrue (fits (length self.now.bytes) addr len) }

@@ -48,7 +48,7 @@ ADVICE, UNSIGNED = "write int64_t or long long", "write uint64_t or unsigned lon
 
 
 class Value(NamedTuple):
-    """A statement, and what is told of its line: what it is, and what to write; nothing where that is the same elsewhere."""
+    """A statement, and what is told of its line: what it is, and what to write; nothing if that is the same elsewhere."""
 
     text: str
     said: str = ""
@@ -190,7 +190,7 @@ class Longs:
             same = (done.returncode, done.stdout) == (alone.returncode, alone.stdout) == (0, done.stdout) and not alone.stderr
             costs = [(self.folder / it).read_text() for it in ("alone.csv", "costs.csv")]
             self.tally.expect(f"cubes on {nodes} nodes, the run", same and costs[0] == costs[1], (done, alone, costs))
-            more = "" if nodes == "1" else f", and so {int(nodes) - 1} more rank{'s' if nodes > '2' else ''}"
+            more = "" if nodes == "1" else f"; the same on {int(nodes) - 1} more rank{'s' if nodes > '2' else ''}"
             told = re.fullmatch(rf"bsprun: rank 0, superstep 1: cubes.c:{line}: (\d+ \+ \d+{FITS}): {ADVICE}{more}\n", done.stderr)
             self.tally.expect(f"cubes on {nodes} nodes, what is told", told is not None, done.stderr)
             checked = self.run("-n", nodes, "--check", source)
@@ -288,7 +288,7 @@ class Longs:
         self.tally.expect("C++", any(it in done.stderr for it in sums), done)
 
     def starts(self) -> None:
-        """The emulator is started once where there is no such number, where that is left out, and for --check."""
+        """The emulator is started once if there is no such number, if that is left out, and for --check."""
         trace = self.folder / "trace"
         (self.folder / "emulator").write_text(TRACE)
         (self.folder / "emulator").chmod(0o755)
@@ -302,7 +302,7 @@ class Longs:
             self.tally.expect(f"starts for {words}", done.returncode == 0 and len(runs) == count, (runs, done))
 
     def costs_nothing(self) -> None:
-        """A program without such numbers is compiled no more often than where that is left out, and one with them is."""
+        """A program without such numbers is compiled no more often than if that is left out, and one with them is."""
         trace = self.folder / "trace"
         (self.folder / GCC.name).write_text(TRACE)
         (self.folder / GCC.name).chmod(0o755)
@@ -350,7 +350,7 @@ class Longs:
         for statement, (given, number) in told.items():
             name = self.write("reads.c", text.replace("%s", statement, 1).replace("%%", "%"))
             done = self.run("--no-check", name, given=given)
-            words = f"{number} is read at main, reads.c:10, and does not fit into a long, which has 32 bits here: write long long, %lld and strtoll"
+            words = f"{number} is read at main, reads.c:10, and does not fit into a long, which has 32 bits here: use long long, %lld and strtoll"
             wanted = f"bsprun: rank 0, superstep 0: {words}\n" if number else ""
             self.tally.expect(f"read by {statement}", (done.returncode, done.stderr) == (0, wanted), done)
 
@@ -361,12 +361,12 @@ class Longs:
         done = subprocess.run(
             words, stdin=subprocess.DEVNULL, capture_output=True, text=True, cwd=self.folder, env=self.environment, check=False, timeout=SECONDS
         )
-        self.tally.expect("one processor", done.returncode == 0 and f"{FITS}: {ADVICE}, and so 2 more ranks" in done.stderr, done)
+        self.tally.expect("one processor", done.returncode == 0 and f"{FITS}: {ADVICE}; the same on 2 more ranks" in done.stderr, done)
 
     def fewer(self) -> None:
         """Where the program takes fewer nodes the run beside has these."""
         done = self.run("-n", "4", self.write("two.c", CUBES.replace("bsp_begin(bsp_nprocs())", "bsp_begin(2)")))
-        right = done.returncode == 0 and "gets these and not 4" in done.stderr and f"{FITS}: {ADVICE}, and so 1 more rank\n" in done.stderr
+        right = done.returncode == 0 and "gets these and not 4" in done.stderr and f"{FITS}: {ADVICE}; the same on 1 more rank\n" in done.stderr
         self.tally.expect("fewer nodes", right, done)
 
     def bounded(self) -> None:

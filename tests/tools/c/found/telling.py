@@ -23,25 +23,25 @@ class Case(NamedTuple):
 
 TOLD: Dict[int, Case] = {
     1: Case([], "malloc of 100000000 bytes was refused at main, "),
-    2: Case(["--no-files"], "rank 0, superstep 0: life.pgm was to be written at files, .. , and --no-files keeps the program from that, and so 1 more"),
+    2: Case(["--no-files"], "rank 0, superstep 0: life.pgm was to be written at files, .. , and --no-files keeps the program from that; the same on 1 more"),
     3: Case([], "rank 0, superstep 0: params.cfg was to be read at files, .. , and no file of this name is given or in this folder"),
     4: Case(["--no-files"], "rank 0, superstep 0: here.cfg was to be read at files, .. : it is in this folder, give --file here.cfg"),
-    5: Case([], "superstep 1: what was asked for comes to nothing, since no bsp_sync follows: the last of it at messages, "),
+    5: Case([], "superstep 1: the last requests have no effect, because no bsp_sync follows; the last one is at messages, "),
     7: Case([], "10 bytes of malloc at 0x"),
     8: Case([], "memory that was given back before"),
     9: Case([], "an address that malloc did not give"),
     10: Case([], "memory at address 0 was written"),
     11: Case([], "rank 0, superstep 0: a number is read at main, .. , and the input is empty: give --input FILE"),
-    12: Case(["--rate", "100000"], "the time is what the run has cost so far by the model, and no host's: a second is 100,000 instructions", False),
+    12: Case(["--rate", "100000"], "bsp_time returns the cost of the run so far by the model, not the time of this computer: a second is 100,000 instructions", False),
     13: Case(["--warn"], "10 bytes of malloc at 0x"),
-    14: Case(["--warn"], "line 1 of the output is '-910', and else '0'; first in what is printed of rank 0 in superstep 0, at memory, silent.c:51", False),
-    15: Case(["--warn"], "a message is read in superstep 3, where none is left, by rank 0"),
+    14: Case(["--warn"], "line 1 of the output is '-910' instead of '0'; first in what is printed of rank 0 in superstep 0, at memory, silent.c:51", False),
+    15: Case(["--warn"], "a message is read in superstep 3 although none is left, by rank 0"),
     16: Case(["--warn"], "its tag still has 0 bytes, and 4 from the next superstep on"),
     17: Case([], "offset 1 of bsp_put at messages, .. is not a multiple of 8, the size of an element of area: it counts bytes"),
     18: Case([], "rank 1, superstep 1: offset 1 of bsp_put at messages, .. is not a multiple of 8, the size of an element of area"),
     19: Case(["--warn"], "the target of a get is read in superstep 1, before bsp_sync, by rank 0 at messages, .. ; the get is that of rank 0 at "),
 }
-NOT_FOUND = "bsprun: looked for, and not found: requests that come to nothing, areas in another order, puts that meet, offsets"
+NOT_FOUND = "bsprun: checked for other likely mistakes, and found none: requests without effect, areas in different orders, puts that meet, offsets"
 # What writes.c writes on three nodes, but for the picture.
 WRITTEN = {
     "lines.txt": "line of rank 0\nline of rank 1\nline of rank 2\n",
@@ -184,7 +184,7 @@ class Telling:
         done = self.run("-DNUMBER=int", "through.c", "x")
         self.expect("a function that is read through NULL", done, 2, "through.c:7", "called by a pointer that was read through NULL")
         (self.folder / "bytes.c").write_text(NO_BYTES)
-        self.expect("a get of no bytes", self.run("-n", "2", "--warn", "bytes.c"), 0, NOT_FOUND, "targets of gets that are read too early")
+        self.expect("a get of no bytes", self.run("-n", "2", "--warn", "bytes.c"), 0, NOT_FOUND, "targets of gets read too early")
         (self.folder / "twice.c").write_text(TWICE)
         self.expect("free of what was merged", self.run("-O0", "twice.c"), 2, "memory that was given back before", "main, twice.c:10")
         (self.folder / "none.c").write_text(NO_PROCESSES)
@@ -200,7 +200,7 @@ class Telling:
         (self.folder / "elsewhere").write_text("kept\n")
         (self.folder / "made/log.txt").symlink_to(self.folder / "elsewhere")
         done = self.run("-n", "3", "--out", "made", image)
-        both = ["lines.txt was written by 3 ranks, 0 to 2: their parts stand one behind another", "log.txt was written by 3 ranks"]
+        both = ["lines.txt was written by 3 ranks, 0 to 2: their parts follow one another", "log.txt was written by 3 ranks"]
         self.expect("files are written", done, 0, "rank 0 is done\nrank 1 is done\nrank 2 is done\n", *both)
         found = {it.name: it.read_text() for it in (self.folder / "made").iterdir() if it.is_file()}
         self.tally.expect("what is written", found == WRITTEN, found)
@@ -336,11 +336,11 @@ class Telling:
         self.expect("what fits", self.run("-DSIZE=1500000", "arrays.c"), 0)
         self.expect("a stack of 1M", self.run("stack.c"), 0)
         done = self.run("--stack", "128K", "stack.c")
-        self.expect("a stack of 128K", done, 2, "its room is 131072 bytes; it uses 400", " bytes of a larger one: give --stack 448K, or make")
+        self.expect("a stack of 128K", done, 2, "stack overflow: the stack has 131072 bytes; the program uses 400", " bytes of a larger one: give --stack 448K, or make")
         self.expect("a stack that was measured", self.run("--stack", "448K", "stack.c"), 0)
         (self.folder / "endless.c").write_text(ENDLESS)
         done = self.run("-O0", "--memory", "4M", "endless.c")
-        self.expect("a stack without an end", done, 2, "its room is 1048576 bytes; ", "K do not suffice either: end the recursion")
+        self.expect("a stack without an end", done, 2, "stack overflow: the stack has 1048576 bytes; ", "K are not enough either: end the recursion")
         subprocess.run([str(REPO / "bspcc"), "-o", "as_given.elf", "stack.c"], cwd=self.folder, check=True, timeout=SECONDS)
         self.expect("a stack of bspcc", self.run("as_given.elf"), 0)
         words = [str(REPO / "bspcc"), "--stack", "512K", "-o", "stack.elf", "stack.c"]

@@ -10,7 +10,7 @@ from collections.abc import Iterator
 
 @contextlib.contextmanager
 def at_most(more: int) -> Iterator[None]:
-    """A block in which this process may take so many bytes more than it has; `MemoryError` is raised where that is not enough. Processes
+    """A block in which this process may take so many bytes more than it has; `MemoryError` is raised if that is not enough. Processes
     that are started in it have the bound too."""
     pages = int(pathlib.Path("/proc/self/statm").read_text(encoding="ascii").split()[0])
     soft, hard = resource.getrlimit(resource.RLIMIT_AS)

@@ -118,7 +118,7 @@ def socket_folder(folder: pathlib.Path) -> Iterator[pathlib.Path]:
 
 
 def talk(job: Job) -> int:
-    """Makes a session of lines. Answers the exit status: the debugger's, where that was refused memory, which it says by itself."""
+    """Makes a session of lines. Answers the exit status: the debugger's, if that was refused memory, which it says by itself."""
     try:
         prompt.talk(command(job))
     except DebuggerEnded as ended:
@@ -129,7 +129,7 @@ def talk(job: Job) -> int:
 
 
 def bridge(command: Sequence[str], typed: Optional[pathlib.Path] = None) -> int:
-    """Makes a session at the other end of gdb's pipe. At a terminal Ctrl-C is for gdb, which closes the pipe where it is ended. But while it
+    """Makes a session at the other end of gdb's pipe. At a terminal Ctrl-C is for gdb, which closes the pipe if it is ended. But while it
     waits for an answer, it tells nothing of that: a file does, whose size is how often it was typed."""
     signal.signal(signal.SIGINT, signal.SIG_IGN)
 
@@ -166,7 +166,7 @@ def check(job: Job) -> None:
 
 
 def file_for_gdb(job: Job, folder: pathlib.Path) -> List[str]:
-    """The file from which gdb takes names and lines, where there is one. Of a text one is made."""
+    """The file from which gdb takes names and lines, if there is one. Of a text one is made."""
     if job.kind != "asm":
         return [str(job.image)] if job.is_for_gdb else []
     content = symbol_file(job.code, job.options.program, job.content.decode(errors="surrogateescape"))

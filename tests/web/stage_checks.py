@@ -389,7 +389,7 @@ def chosen(look: Look) -> str:
         return f"the halo is {look.page.run(halo)}"
     look.page.run("$('traffic').open = true; moves.traffic()")
     table = look.page.run("[...document.querySelectorAll('#traffic-table tbody tr')].map((row) => [...row.children].map((it) => it.textContent))")
-    if table != [["0", "", "4", "", "", "4"], ["1", "4", "", "4", "", "8"], ["2", "", "4", "", "4", "8"], ["3", "", "", "4", "", "4"], ["received", "4", "8", "8", "4", "h = 8"]]:
+    if ["|".join(row) for row in table] != ["0||4|||4", "1|4||4||8", "2||4||4|8", "3|||4||4", "received|4|8|8|4|h = 8"]:
         return f"the table is {table}"
     look.page.click("td.box[data-name=rod] .fold")
     look.page.click("th.rank[data-rank='3']")

@@ -233,7 +233,7 @@ def values(look: Look) -> str:
                 more, fault = compared(look, session, formats)
                 fault = fault or states(look, session)
             count += more
-            if fault or "Superstep" not in said and "over" not in said:
+            if fault or "uperstep" not in said:
                 return f"{source} at {stop}: {fault or said}"
     return "" if count >= FEWEST_CELLS else f"{count} cells were compared"
 

@@ -364,7 +364,10 @@ def many(look: Look) -> str:
         return "no other ranks can be chosen"
     words = ["-n", "4", "-D", "STEPS=10000"]
     program = look.maker.elf("tests/web/programs/ring.c", words)
-    look.open(look.maker.page(program, words, "long"), "9000")
+    path = look.maker.page(program, words, "long")
+    if path.stat().st_size > MOST_PAGE:
+        return f"a page of 10,000 supersteps has {path.stat().st_size} bytes"
+    look.open(path, "9000")
     with native(look.maker, program, words, look.page.run("moves.stop.place")) as session:
         count, fault = compared(look, session, {"left": "i", "right": "i"})
     look.go("17")

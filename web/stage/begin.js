@@ -234,7 +234,7 @@ async function loadMachine() {
   }
   const record = await decoded("record");
   if (record === "null") {
-    throw new Error(why);
+    throw new Error(`${why} The page has no record of the run, which is too long for one.`);
   }
   recordOf = JSON.parse(record);
   $("other").hidden = true;
@@ -270,4 +270,4 @@ async function begin() {
   document.documentElement.dataset.ready = String(Math.round(performance.now()));
 }
 
-begin().catch((error) => say(`This page cannot run the machine. ${error.message ?? error}`, true));
+begin().catch((error) => say(`This page cannot show the run. ${error.message ?? error}`, true));

@@ -49,8 +49,10 @@ def arguments(words: Sequence[str]) -> argparse.Namespace:
         " docs/manual/gdb.md is the manual. The exit status is that of gdb.",
     )
     parser.section("the debugger")
-    parser.add_argument("--dialogue", "--lines", action="store_true", help="use the debugger's own commands instead of gdb, with a prompt, history, and"
-        " names for addresses; type help there. --lines is the old name of this option")  # fmt: skip
+    parser.add_argument("--dialogue", action="store_true", help="use the debugger's own commands instead of gdb, with a prompt, history, and"
+        " names for addresses; type help there")  # fmt: skip
+    # The old name of this option.
+    parser.add_argument("--lines", dest="dialogue", action="store_true", help=argparse.SUPPRESS)
     parser.add_argument("--server", action="store_true", help="start no gdb: serve one session on a Unix socket that only you can reach, and"
         " print its path")  # fmt: skip
     parser.add_number("--tcp", what="a port", least=0, most=65535, metavar="PORT", help="like --server, but on this port of 127.0.0.1, which"

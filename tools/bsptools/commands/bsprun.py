@@ -9,6 +9,7 @@ import pathlib
 import shlex
 import signal
 import sys
+from typing import TYPE_CHECKING
 
 from .. import children, files, streams
 from ..limits import MOST_WORKERS, WORKERS
@@ -23,6 +24,9 @@ from ..run.found_files import Wanted, with_others
 from ..run.long_overflows import Beside
 from ..run.repeated_output import Repeated
 from ..run.watched_run import Done, Fewer, Interrupted, Stopped, Watch
+
+if TYPE_CHECKING:
+    from ..portable.portability import Builds
 
 # The status of a run that the clock has ended, as that of timeout(1), and the longest that --wall takes.
 WALL, MOST_SECONDS = 124, 10_000_000
@@ -170,13 +174,13 @@ def deliver(job: Job, done: Done) -> int:
         lines = held_lines(job, found)
         put(b"".join([b"" if done.is_line_whole or not lines else b"\n", *(line + b"\n" for line in lines)]))
     chosen, is_whole = None, True
-    if done.records or options.out is not None:
+    if done.notes or done.files.files or options.out is not None:
         from ..run.exit_status import chosen_status
         from ..run.record_messages import tell_records
         from ..outputs.library_notes import STATUS
 
-        chosen = chosen_status(job, found, done.records)
-        is_whole = tell_records(job, done.records, found, untold=STATUS if chosen is not None and chosen.is_of_all else "")
+        chosen = chosen_status(job, found, done.notes)
+        is_whole = tell_records(job, done.notes, done.files, found, untold=STATUS if chosen is not None and chosen.is_of_all else "")
     if done.has_null and job.mark:
         tell(["bsprun: a NULL text was printed, as by puts or %s: the output has the bytes at address 0"])
     is_told = tell_offsets(job, found, done.seconds)
@@ -209,11 +213,11 @@ def tell_where(job: Job, begin: str, stopped: Stopped, is_awaited: bool) -> None
     """Keeps the files of a run that was broken off, and says in a line where its ranks were: soon, where a person waits for that."""
     from ..run.rank_positions import MOST_AWAITED, ranks_at
 
-    if job.options.out is not None and stopped.records:
+    if job.options.out is not None and stopped.files.files:
         from ..run.record_messages import put_files
 
-        if put_files(job, stopped.records).files:
-            tell([f"bsprun: files in {job.options.out} contain what was written before the superstep in which the run was stopped"])
+        put_files(job, stopped.files)
+        tell([f"bsprun: files in {job.options.out} contain what was written before the superstep in which the run was stopped"])
     show("bsprun: looking for where the ranks were: Ctrl-C leaves that out")
     line = f"bsprun: {begin} after {stopped.seconds:.1f} s"
     try:
@@ -264,6 +268,15 @@ def run(job: Job, beside: Beside, folder: pathlib.Path, repeated: Repeated) -> i
         return WALL
 
 
+def portable_builds(options: argparse.Namespace, folder: pathlib.Path) -> contextlib.AbstractContextManager[Builds | None]:
+    """What builds the program so that it takes choices, if other choices are tried."""
+    if not options.portable:
+        return contextlib.nullcontext()
+    from ..portable import portability
+
+    return portability.Builds(options, folder)
+
+
 def main(words: list[str]) -> int:
     """Runs a program; the status is the emulator's, or says what ended it."""
     options = arguments(words)
@@ -280,22 +293,15 @@ def main(words: list[str]) -> int:
         with about(options.out):
             os.mkdir(options.out)
     options.folder = None if options.out is None else files.Folder.of(options.out)
-    with contextlib.ExitStack() as over:
-        folder = over.enter_context(children.folder("bsprun"))
-        beside = over.enter_context(contextlib.closing(Beside(folder)))
+    with children.folder("bsprun") as folder, contextlib.closing(Beside(folder)) as beside, portable_builds(options, folder) as builds:
         if options.page is not None:
             return write_page(options, folder, words)
-        begin = beside.build
-        if options.portable:
-            from ..portable.portability import Builds, is_portable
 
-            builds = over.enter_context(Builds(options, folder))
-
-            def begin(asked: argparse.Namespace, content: bytes) -> None:
-                """Begins the builds that go beside the program's own."""
-                beside.build(asked, content)
-                if not content:
-                    builds.begin()
+        def begin(asked: argparse.Namespace, content: bytes) -> None:
+            """Begins the builds that go beside the program's own."""
+            beside.build(asked, content)
+            if builds is not None and not content:
+                builds.begin()
 
         job = prepared(options, folder, "bsprun", is_marked=True, beside=begin)
         if options.order is not None:
@@ -303,6 +309,8 @@ def main(words: list[str]) -> int:
 
             job = with_order(job, folder)
         status = run(job, beside, folder, Repeated())
-        if options.portable and (status == 0 or getattr(options, "is_tried", False)):
+        if builds is not None and (status == 0 or getattr(options, "is_tried", False)):
+            from ..portable.portability import is_portable
+
             return status if is_portable(job, folder, builds, options.accepted) else OTHERWISE
         return status

@@ -338,7 +338,7 @@ def too_large(looker: Looker, suspect: Suspect, asked: int) -> str:
     looked = looker.look(suspect)
     where = f" by bsp_push_reg at {looked.place}" if looked is not None else ""
     begin = f"rank {suspect.rank}, superstep {suspect.superstep}: {suspect.size} bytes are registered{where}"
-    return f"{begin}, of a block of malloc that has {asked}: a put past them overwrites other blocks"
+    return f"{begin}, but the malloc block has {asked}: a put past its end overwrites other blocks"
 
 
 def other_order(looker: Looker, suspect: Suspect, first: int) -> str:

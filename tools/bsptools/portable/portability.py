@@ -117,6 +117,8 @@ class Portable:
         self.variables, self.cuts = final_variables.of_program(self.code), first.cuts
         self.known: dict[Choices, dict[int, bytes]] = {}
         self.told_pairs: set[tuple[int, ...]] = set()
+        # Builds that look at accesses, and in which variables of functions have values.
+        self.looking: Trials | None = None
         self.valued: list[tuple[Trials, list[str]]] | None = None
         # Whether something of what seldom counts does, so that each part of it is looked for by itself.
         self.is_rare = True
@@ -306,6 +308,10 @@ class Portable:
             self.trials.begin_all([Choices(unbuffered=WATCHED), *TIMES])
             if "bsp_ranges" not in self.code.names and self.subject.options.sources:
                 self.builds.begin(*LOOKING)
+                self.with_values()
+                with contextlib.suppress(Refused):
+                    self.looking, _ = self.builds.get(self.subject, self.trials.ticks, *LOOKING)
+                    self.looking.begin_all([Choices()], logged=[Choices()])
         self.with_values()
 
     def tried(self, what: str, look: Callable[[], None]) -> None:
@@ -499,13 +505,9 @@ class Portable:
         if not self.subject.options.sources:
             self.leave_out(f"not tried: {ACCESSES}, which takes bspcc --portable=accesses")
             return None
-        try:
-            trials, _ = self.builds.get(self.subject, self.trials.ticks, *LOOKING)
-        except Refused:
+        if self.looking is None:
             self.leave_out(f"not tried: {ACCESSES}, for which the program was not compiled")
-            return None
-        trials.room = trials.room and self.trials.room
-        return trials
+        return self.looking
 
     def accesses(self) -> bool:
         """What ranks read and write themselves where an unbuffered call has the same bytes. Answers whether that was found."""

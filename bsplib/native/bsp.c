@@ -461,7 +461,7 @@ static void must_agree(void)
             stop_together(STATUS_NOT_MET, "rank %d set the tag size %d, and rank 0 %d", rank, transport_notice(rank)->number, zero->number);
     for (int rank = 1; rank < transport_ranks; rank++)
         if (transport_notice(rank)->registrations != zero->registrations)
-            stop_together(STATUS_NOT_MET, "rank %d did not make the registrations of rank 0", rank);
+            stop_together(STATUS_NOT_MET, "rank %d did not register the same as rank 0", rank);
 }
 
 void bsp_sync(void)

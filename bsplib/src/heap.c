@@ -122,7 +122,7 @@ __attribute__((noreturn, cold)) static void stop_for_block(const char *function,
     } else
         strcpy(to, "memory of malloc at 0x");
     utoa((unsigned)(uintptr_t)given(block), to + strlen(to), 16);
-    strcat(to, has_size ? " were written past their end" : " was written before its beginning, or past the end of what stands there");
+    strcat(to, has_size ? " were written past their end" : " was written before its beginning, or past the end of the block there");
     bsp_stop(text);
 }
 
@@ -242,9 +242,9 @@ static struct block *block_of(const char *function, void *place)
 {
     struct block *block = at(place, (size_t)-HEAD);
     if (((intptr_t)place & FLAGS) != 0 || (char *)block < first || (char *)block >= end)
-        bsp_stop("free or realloc is given an address that malloc did not give");
+        bsp_stop("free or realloc got an address that malloc did not return");
     if ((char *)block >= top || (block->asked == (unsigned)IS_FREE && !(block->size & IS_USED)))
-        bsp_stop("free or realloc is given memory that was given back before");
+        bsp_stop("double free: free or realloc got memory that was freed before");
     if (!(block->size & IS_USED) || !is_whole(block))
         stop_for_block(function, block);
     return block;

@@ -139,12 +139,12 @@ class Trial:
         return answer
 
     def expect(self, fault: str) -> None:
-        """Notes a fault, which is empty where all is right."""
+        """Notes a fault, which is empty if all is right."""
         if fault:
             self.faults.append(f"{fault}: {self.commands[-1]}")
 
     def expect_that(self, is_right: bool, fault: str) -> None:
-        """Notes a fault where something is not right."""
+        """Notes a fault if something is not right."""
         self.expect("" if is_right else fault)
 
     def one_in(self, count: int) -> bool:

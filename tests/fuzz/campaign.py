@@ -35,7 +35,7 @@ class Campaign:
         self.failed = 0
 
     def make(self, first: int, count: int, is_enough: Callable[["Campaign"], bool] = lambda _: False) -> None:
-        """Makes so many runs from a number on, or fewer where they are enough."""
+        """Makes so many runs from a number on, or fewer if they are enough."""
         with tempfile.TemporaryDirectory(dir=fast_folder()) as folder, Bench(self.program, pathlib.Path(folder)) as bench:
             for number in range(first, first + count):
                 self.make_one(bench, number)

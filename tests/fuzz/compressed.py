@@ -56,7 +56,7 @@ def expanded(half: int, has_floats: bool = False) -> Optional[int]:
 
 
 def floating(half: int, funct: int) -> Optional[int]:
-    """Loads and stores of floating point: doubles where bit 1 of funct3 is clear, and singles where it is set."""
+    """Loads and stores of floating point: doubles where bit 1 of funct3 is clear, and singles if it is set."""
     if half & 1 or not funct & 1:
         return None
     is_double, is_store = not funct & 2, funct & 4

@@ -76,7 +76,7 @@ NAMES = {*SPOKEN, b"nodes"}
 
 
 class Asked(NamedTuple):
-    """What a line asks for: its first word, and its numbers. A point has one where it is a superstep, and two at a rank."""
+    """What a line asks for: its first word, and its numbers. A point has one if it is a superstep, and two at a rank."""
 
     name: bytes
     numbers: Tuple[int, ...]
@@ -98,7 +98,7 @@ def number_of(word: bytes, bits: int) -> Optional[int]:
 
 @functools.lru_cache(maxsize=KEPT)
 def asked(line: bytes, is_dialogue: bool = False) -> Optional[Asked]:
-    """What a line asks for; none where it asks for nothing. An empty line has an empty word."""
+    """What a line asks for; none if it asks for nothing. An empty line has an empty word."""
     forms = SPOKEN if is_dialogue else FORMS
     words = [word for word in line.split(b" ") if word]
     if not words:

@@ -342,7 +342,7 @@ def begin(node: Node, queue: List[Tuple[bytes, bytes]]) -> None:
 
 
 def outcome_of(nodes: List[Node]) -> Optional[str]:
-    """The outcome that the states of nodes lead to, or the fault of their exchange; none where it can be made."""
+    """The outcome that the states of nodes lead to, or the fault of their exchange; none if it can be made."""
     stopped = [node for node in nodes if node.state not in ("ended", "synced")]
     if stopped:
         return f"rank {stopped[0].rank} stopped: {stopped[0].state}"
@@ -356,7 +356,7 @@ def outcome_of(nodes: List[Node]) -> Optional[str]:
 
 
 def end_of(entry: int, segments: List[Segment], machine: Machine, text: bytes) -> Optional[End]:
-    """The end of a run of an image that fits; none where that is too far away."""
+    """The end of a run of an image that fits; none if that is too far away."""
     memory = laid(segments, machine.memory)
     nodes = [Node(entry, bytearray(memory), rank, machine, text) for rank in range(machine.nodes)]
     output, lines, total, steps = b"", b"", 0, 0

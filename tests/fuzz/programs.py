@@ -232,8 +232,8 @@ class Made:
 
 
 def program(chance: random.Random, clock: bool = False, floats: bool = False, atomics: bool = False) -> Made:
-    """A program of some supersteps, which reads a clock where there is one, computes where there are units of floating point, and changes
-    words by instructions of A where there are these."""
+    """A program of some supersteps, which reads a clock if there is one, computes if there are units of floating point, and changes
+    words by instructions of A if there are these."""
     nodes, memory = (chance.choices([size for _, size in sizes], [weight for weight, _ in sizes])[0] for sizes in (NODES, MEMORIES))
     base = 0xC00 if memory == 4096 else chance.choice([0x1000, 0x1800, 0x1000])
     made = Program(chance, Shape(nodes, memory, base, chance.choice([0, 0, 0, 2, 5, 20, 200]), clock, floats, atomics))

@@ -20,7 +20,7 @@ SLICES = (1, 2, 3, 7, 65_536)
 
 @dataclasses.dataclass(frozen=True)
 class Run:
-    """What a run wrote, its report, and its end by the model where that is not too far away."""
+    """What a run wrote, its report, and its end by the model if that is not too far away."""
 
     output: bytes
     report: Report

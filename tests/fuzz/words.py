@@ -104,13 +104,13 @@ def files(chance: random.Random, made: Line, parts: List[List[Word]]) -> None:
 
 
 def refusal_of(made: Line) -> str:
-    """The line on standard error that is due, without its first word and colon; empty where nothing is refused."""
+    """The line on standard error that is due, without its first word and colon; empty if nothing is refused."""
     if IMAGES[made.image].startswith("cannot"):
         return IMAGES[made.image]
     if made.input in ("absent", "-"):
         return f"cannot open {made.input}"
     if made.is_large and made.tells == "profile" and int(made.values.get("nodes", "1")) > 1024:
-        return "cannot write a profile of more than 1024 nodes; use fewer nodes, or no --profile"
+        return "a run with a profile has at most 1024 nodes"
     if made.beside in ("folder", "absent/profile") or is_read(made):
         return f"cannot open {made.beside}"
     for name in ORDER:

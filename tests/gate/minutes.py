@@ -9,7 +9,7 @@ import re
 import threading
 from typing import Dict, Mapping, Optional, Sequence, Tuple
 
-from gate.checks import Done
+from gate.checks import Check, Done
 
 # Each process of the prover has this in its environment, with the number of the run that it belongs to.
 MARK = "BSPEMU_GATE"
@@ -79,7 +79,7 @@ class Meter:
 
 
 def part_of(place: pathlib.Path) -> Optional[Part]:
-    """Which crate a process of the prover works on, and for which part, or None where it is of no run of this gate."""
+    """Which crate a process of the prover works on, and for which part, or None if it is of no run of this gate."""
     if f"{MARK}={os.getpid()}".encode() not in (place / "environ").read_bytes().split(b"\0"):
         return None
     words = [it.decode(errors="replace") for it in (place / "cmdline").read_bytes().split(b"\0")]
@@ -101,7 +101,13 @@ def total(prover: float, checks: Sequence[Done], clock: float) -> str:
     spent = prover + sum(it.processor_seconds for it in checks) / 60
     today = datetime.date.today()
     processors = len(os.sched_getaffinity(0))
-    return f"On {today.day} {today:%B %Y} all of it took {spent:.0f} processor minutes, which were {clock:.0f} minutes on {processors} processors."
+    whole = f"On {today.day} {today:%B %Y}, the whole gate took {spent:.0f} processor minutes."
+    return f"{whole} On {processors} processors, that was {clock:.0f} minutes."
+
+
+def typed(check: Check) -> str:
+    """The command of a check as a person types it: without the program that it takes and without numbers."""
+    return " ".join([check.command[0], *(it for it in check.command[1:] if it.startswith("--") and it != "--program")])
 
 
 def table(
@@ -130,8 +136,8 @@ def table(
     rest = prover - sum(sums.values())
     lines += ["", f"Of the {number} mutants and controls, {tried} were tried in this run."]
     lines += [f"Programs, their linking and the prover's own bookkeeping took another {rest:.1f} minutes.", ""]
-    lines += ["| Check | Parts | Processor seconds |", "|---|---|---|"]
-    lines += [f"| {it.check.name} | {it.tally.passed} | {it.processor_seconds:.0f} |" for it in checks]
+    lines += ["| Check | Command | Parts | Processor seconds |", "|---|---|---|---|"]
+    lines += [f"| {it.check.name} | `{typed(it.check)}` | {it.tally.passed} | {it.processor_seconds:.0f} |" for it in checks]
     return "\n".join(lines)
 
 

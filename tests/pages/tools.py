@@ -17,7 +17,7 @@ BINUTILS_VERSION = "2.40"
 
 
 def _written_by(*words: str) -> Optional[str]:
-    """What a program writes that ends well; None where there is no such program, or it fails."""
+    """What a program writes that ends well; None if there is no such program, or it fails."""
     if shutil.which(words[0]) is None:
         return None
     done = subprocess.run(words, stdout=subprocess.PIPE, stderr=subprocess.DEVNULL, text=True, check=False)

@@ -1,7 +1,7 @@
 """What the checks of the tools share: what they count and tell, what they skip, and parts that run side by side.
 
 A check prints a line for each thing that fails, with what was wrong; a line for each part whose tool is not here; and at last
-`N passed, M failed, K skipped`. Its status is 1 where something failed, and 0 where nothing did.
+`N passed, M failed, K skipped`. Its status is 1 if something failed, and 0 if nothing did.
 """
 
 from __future__ import annotations
@@ -41,7 +41,7 @@ MADE = {".git", "out", "__pycache__", ".bspsweep", ".bspcheck", "pictures"}
 
 
 def tracked() -> List[str]:
-    """The files of the repository, as git tells them. Where there is no git, or it does not trust a checkout of another user, these are
+    """The files of the repository, as git tells them. If there is no git, or it does not trust a checkout of another user, these are
     all files that were not made here."""
     try:
         done = subprocess.run(["git", "ls-files", "-z"], cwd=REPO, stdout=subprocess.PIPE, stderr=subprocess.DEVNULL, check=True)
@@ -152,7 +152,7 @@ class Tally:
                 self.passed += 1
 
     def expect(self, name: str, is_right: bool, fault: object) -> None:
-        """Notes a result, with what was found where it is wrong."""
+        """Notes a result, with what was found if it is wrong."""
         self.tell(name, "" if is_right else str(fault) or "it is wrong, and nothing was said")
 
     def skip(self, name: str, why: str) -> None:

@@ -99,7 +99,7 @@ def server_of(tools: Tuple[str, ...]) -> Server:
 def run(
     words: Sequence[str], given: str = "", cwd: Optional[pathlib.Path] = None, env: Optional[Mapping[str, str]] = None, merged: bool = False
 ) -> "subprocess.CompletedProcess[str]":
-    """A run of a tool of the repository's top, as subprocess would make it. Where it is asked for, both its streams are one. A tool that this
+    """A run of a tool of the repository's top, as subprocess would make it. If it is asked for, both its streams are one. A tool that this
     Python cannot load is started."""
     name = pathlib.PurePath(words[0]).name
     if name not in PACKAGES or WANTED.get(name) and importlib.util.find_spec(WANTED[name]) is None:

@@ -14,7 +14,7 @@ INDENT = "    "
 
 
 class Import(NamedTuple):
-    """A line of a module that imports another one, also where it does so late or for its types alone."""
+    """A line of a module that imports another one, also if it does so late or for its types alone."""
 
     line: int
     target: str

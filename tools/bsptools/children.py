@@ -49,7 +49,7 @@ _running: list[subprocess.Popen[bytes]] = []
 
 
 def patience(seconds: float) -> float:
-    """How long something may take that takes so many seconds where a process has a processor: it has a part of one where there are more
+    """How long something may take that takes so many seconds where a process has a processor: it has a part of one if there are more
     processes than processors."""
     busy = os.getloadavg()[0] / len(os.sched_getaffinity(0))
     return seconds * min(max(busy, 1.0), MOST_BUSY)
@@ -101,7 +101,7 @@ def _stop(_number: int, _frame: object) -> None:
 
 
 def stop_here() -> None:
-    """Stops this process as Ctrl-Z does, until a shell has it go on. Where no shell looks after its group, nothing is done."""
+    """Stops this process as Ctrl-Z does, until a shell has it go on. If no shell looks after its group, nothing is done."""
     before = signal.signal(signal.SIGTSTP, signal.SIG_DFL)
     mask = signal.pthread_sigmask(signal.SIG_UNBLOCK, {signal.SIGTSTP})
     try:
@@ -191,7 +191,7 @@ def put_off() -> Iterator[None]:
 
 
 def start(words: Sequence[str], by: int = signal.SIGKILL, keeper: int = -1, **given: Any) -> subprocess.Popen[bytes]:
-    """Starts a process with a group of its own, so that Ctrl-C at a terminal is for this one alone. Where this one is killed, that one
+    """Starts a process with a group of its own, so that Ctrl-C at a terminal is for this one alone. If this one is killed, that one
     gets the signal `by` from the kernel, and a keeper at the other end of a pipe has read the number of its group."""
     parent = os.getpid()
 
@@ -228,7 +228,9 @@ def end(child: subprocess.Popen[bytes], by: int = signal.SIGKILL) -> None:
             with contextlib.suppress(subprocess.TimeoutExpired):
                 child.wait(patience(PATIENCE))
     child.wait()
-    _running[:] = [it for it in _running if it is not child]
+    # Threads may end others meanwhile.
+    with contextlib.suppress(ValueError):
+        _running.remove(child)
     for stream in (child.stdin, child.stdout, child.stderr):
         with contextlib.suppress(BrokenPipeError):
             if stream is not None:
@@ -237,7 +239,7 @@ def end(child: subprocess.Popen[bytes], by: int = signal.SIGKILL) -> None:
 
 @contextlib.contextmanager
 def running(words: Sequence[str], by: int = signal.SIGKILL, **given: Any) -> Iterator[subprocess.Popen[bytes]]:
-    """A process that is over at the end of the block, also where a signal comes as it is started."""
+    """A process that is over at the end of the block, also if a signal comes as it is started."""
     child = None
     try:
         with put_off():
@@ -249,7 +251,7 @@ def running(words: Sequence[str], by: int = signal.SIGKILL, **given: Any) -> Ite
 
 
 def at_terminal(words: Sequence[str], note: Callable[[], None], tell: Callable[[int], None], env: dict[str, str]) -> int:
-    """Runs a process in this environment that has this one's terminal, and gets Ctrl-C by itself, which is noted here. What ends this one ends it, also where
+    """Runs a process in this environment that has this one's terminal, and gets Ctrl-C by itself, which is noted here. What ends this one ends it, also if
     the terminal has stopped it, as one in the background: this one is not stopped so. Ctrl-Z stops both; what else is to stop then is told of
     SIGTSTP, and of SIGCONT. Answers what it ended with, as Popen has it."""
     stops = {signal.SIGTSTP} if signal.getsignal(signal.SIGTSTP) != signal.SIG_IGN else set()
@@ -318,7 +320,7 @@ def _tell_of_place(chosen: str, held: str) -> None:
 @contextlib.contextmanager
 def folder(name: str, above: str = "") -> Iterator[pathlib.Path]:
     """A folder for a while, which none but this user may enter, below the one for such things if no other is named. A shell waits until this
-    process closes a pipe, and removes it: also where this one is killed. If the shell is killed, this process removes it, and if both are,
+    process closes a pipe, and removes it: also if this one is killed. If the shell is killed, this process removes it, and if both are,
     the next one that makes a folder there."""
     above = above or place()
     # A signal that comes between these would leave the folder.
@@ -397,7 +399,7 @@ def _waiting(command: str, what: str) -> Iterator[int]:
 
 
 def kept(child: subprocess.Popen[bytes]) -> contextlib.AbstractContextManager[object]:
-    """A block at whose end nothing of a child's group is left also where this process is killed: a compiler has children. The shell's own
+    """A block at whose end nothing of a child's group is left also if this process is killed: a compiler has children. The shell's own
     `kill` does it, since a small system has no other one."""
     return _waiting('read -r word; [ -n "$word" ] || kill -s KILL -- "$1"', f"-{child.pid}")
 

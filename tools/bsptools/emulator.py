@@ -2,16 +2,18 @@
 
 from __future__ import annotations
 
+import concurrent.futures
 import contextlib
 import functools
 import os
 import pathlib
 import shutil
+import signal
 import subprocess
 import sys
 import tempfile
 import time
-from collections.abc import Sequence
+from typing import TYPE_CHECKING
 
 from . import VERSION, children, files
 from .refusals import Refused, lines_of, show, tell
@@ -21,6 +23,8 @@ IN_WHEEL = pathlib.Path(__file__).resolve().parents[1] / "bspemu/share"
 # The repository that this package is in, or what a wheel has of it.
 REPO = IN_WHEEL if IN_WHEEL.exists() else pathlib.Path(__file__).resolve().parents[2]
 QUIET_SECONDS = 2
+if TYPE_CHECKING:
+    Run = concurrent.futures.Future[subprocess.CompletedProcess[bytes]]
 
 
 def program(name: str) -> str:
@@ -70,7 +74,7 @@ def which() -> str:
 
 
 def heard(*words: str) -> tuple[str, list[str]]:
-    """What a program writes on standard output, without the last line feed, and its lines on standard error; a refusal where it fails."""
+    """What a program writes on standard output, without the last line feed, and its lines on standard error; a refusal if it fails."""
     try:
         done = subprocess.run(words, stdin=subprocess.DEVNULL, capture_output=True, check=False)
     except OSError as error:
@@ -87,7 +91,7 @@ def said(*words: str) -> str:
 
 
 def version(name: str) -> list[str]:
-    """Lines that say what a tool is, of which commit where that is known, and which emulator it starts, or why there is none."""
+    """Lines that say what a tool is, of which commit if that is known, and which emulator it starts, or why there is none."""
     commit = ""
     with contextlib.suppress(Refused, OSError):
         is_checkout = (REPO / ".git").exists()
@@ -113,24 +117,44 @@ def known(path: str) -> str:
     return f"{path}, whose origin is unknown"
 
 
-def run_all(commands: Sequence[list[str]]) -> list[subprocess.CompletedProcess[bytes]]:
-    """Runs the emulator for each command, as many of them at once as there are processors."""
-    if len(commands) == 1:
-        return [run(commands[0])]
-    most, done = len(os.sched_getaffinity(0)), []
-    with contextlib.ExitStack() as ended:
-        outputs = [(ended.enter_context(tempfile.TemporaryFile()), ended.enter_context(tempfile.TemporaryFile())) for _ in commands]
-        going: list[subprocess.Popen[bytes]] = []
-        for at, words in enumerate(commands):
-            while len(going) < min(at + most, len(commands)):
-                stdout, stderr = outputs[len(going)]
-                child = children.running(commands[len(going)], stdin=subprocess.DEVNULL, stdout=stdout, stderr=stderr)
-                going.append(ended.enter_context(child))
-            status = going[at].wait()
-            for file in outputs[at]:
+class Runs:
+    """Runs of the emulator beside one another and beside this process: as many at once as there are processors, in the order in which they
+    were begun. At the end those are broken off that nobody has waited for."""
+
+    def __init__(self) -> None:
+        self._pool = concurrent.futures.ThreadPoolExecutor(len(os.sched_getaffinity(0)))
+        self._begun: list[Run] = []
+        self._going: set[subprocess.Popen[bytes]] = set()
+        self._is_over = False
+
+    def __enter__(self) -> Runs:
+        return self
+
+    def __exit__(self, *_: object) -> None:
+        self._is_over = True
+        for it in self._begun:
+            it.cancel()
+        for child in list(self._going):
+            if child.poll() is None:
+                with contextlib.suppress(ProcessLookupError):
+                    os.killpg(child.pid, signal.SIGKILL)
+        self._pool.shutdown()
+
+    def begin(self, words: list[str]) -> Run:
+        """Begins a run once there is a processor for it."""
+        self._begun.append(self._pool.submit(self._run, words))
+        return self._begun[-1]
+
+    def _run(self, words: list[str]) -> subprocess.CompletedProcess[bytes]:
+        with tempfile.TemporaryFile() as stdout, tempfile.TemporaryFile() as stderr:
+            with children.running(words, stdin=subprocess.DEVNULL, stdout=stdout, stderr=stderr) as child:
+                self._going.add(child)
+                # This may have begun as the others were ended.
+                status = child.wait() if not self._is_over else -signal.SIGKILL
+                self._going.discard(child)
+            for file in stdout, stderr:
                 file.seek(0)
-            done.append(subprocess.CompletedProcess(words, status, outputs[at][0].read(), outputs[at][1].read()))
-    return done
+            return subprocess.CompletedProcess(words, status, stdout.read(), stderr.read())
 
 
 def run(words: list[str]) -> subprocess.CompletedProcess[bytes]:

@@ -105,7 +105,7 @@ def as_text(path: str) -> Iterator[str]:
 
 @contextlib.contextmanager
 def replaced(path: str | os.PathLike[str]) -> Iterator[str]:
-    """A file to write, which takes the place of this one at the end of the block, so that this one is never there in part. Where nothing
+    """A file to write, which takes the place of this one at the end of the block, so that this one is never there in part. If nothing
     is written, nothing is replaced.
 
     A link stays, and leads to the new file. What is not a regular file, as a pipe, is written to as it is. In a folder where others may rename
@@ -218,7 +218,7 @@ def is_here() -> bool:
 
 
 def absolute(path: str) -> str:
-    """A path from the topmost folder on; a refusal where it is one from the folder that this was started in, and that is gone."""
+    """A path from the topmost folder on; a refusal if it is one from the folder that this was started in, and that is gone."""
     if not os.path.isabs(path) and not is_here():
         raise Refused(f"{path}: {GONE}: give a path from / on, or start it elsewhere")
     return os.path.abspath(path)

@@ -29,7 +29,7 @@ class Machine(NamedTuple):
 
 
 def machine_of(line: str) -> tuple[str, Machine] | None:
-    """The name and the machine of a line of a table, or none where it is not of that form. g is that of a byte, exactly."""
+    """The name and the machine of a line of a table, or none if it is not of that form. g is that of a byte, exactly."""
     words = line.split(None, 6)
     if len(words) < 7:
         return None

@@ -1,7 +1,7 @@
 """The tools' modules, compiled once and kept in a folder of the user.
 
 Most of the time of a short run would go into compiling them. Nothing is written beside the program. What is kept begins with the text that
-it was compiled from, and is taken where that is the module's text, byte for byte, whatever times and places files have, and where the rest
+it was compiled from, and is taken if that is the module's text, byte for byte, whatever times and places files have, and where the rest
 has the digest that stands in front of it: Python would run spoiled code, and crash. So checkouts and installations share what they have in
 common, and the folder has no more than one file for each module and version of Python.
 """
@@ -33,7 +33,7 @@ def digest(content: bytes) -> bytes:
 
 
 def write(path: str, content: bytes) -> None:
-    """Writes a file as a whole, or nothing where that cannot be. Another start may do so at the same time."""
+    """Writes a file as a whole, or nothing if that cannot be. Another start may do so at the same time."""
     written = f"{path}.{os.getpid()}"
     try:
         with open(written, "wb", opener=lambda name, flags: os.open(name, flags, FILE_MODE)) as file:
@@ -45,7 +45,7 @@ def write(path: str, content: bytes) -> None:
 
 
 def keep() -> None:
-    """Has the modules of this package that are loaded from here on taken as they are kept, and kept where they are not."""
+    """Has the modules of this package that are loaded from here on taken as they are kept, and kept if they are not."""
     # Tools that are installed elsewhere may be older: theirs have no digests, and are in a folder of another name.
     kept = own_folders.cache("bspemu", "modules") if sys.implementation.cache_tag else ""
 

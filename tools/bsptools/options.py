@@ -119,7 +119,7 @@ class Parser(argparse.ArgumentParser):
         return found
 
     def add_number(self, *names: str, what: str, least: int, most: int, unit: int = 1, **given: Any) -> None:
-        """An option with a whole number of this range, which is a number of bytes where it is said to be BYTES."""
+        """An option with a whole number of this range, which is a number of bytes if it is said to be BYTES."""
         reader = number(what, least, most, unit, given["metavar"] == "BYTES")
         self.add_argument(*names, type=reader, **given)
 

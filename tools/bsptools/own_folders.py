@@ -21,7 +21,7 @@ MODE, PRIVATE = 0o755, 0o700
 
 
 def fault(path: str | os.PathLike[str]) -> str:
-    """Why a folder is not this user's own: it is a link, belongs to another user, or others may write there. Nothing where it is one, or is
+    """Why a folder is not this user's own: it is a link, belongs to another user, or others may write there. Nothing if it is one, or is
     not there."""
     try:
         found = os.lstat(path)
@@ -95,7 +95,7 @@ def make(path: str | os.PathLike[str]) -> str:
 
 def cache(*names: str) -> str:
     """The folder of these names, one below the other, in the user's folder of what is kept from run to run and can be made again; it is made
-    where it is not there. Nothing where no absolute path leads to it, where it is not this user's own, where others may rename it, or where it
+    if it is not there. Nothing if no absolute path leads to it, if it is not this user's own, where others may rename it, or where it
     would be made in another's folder, as with sudo."""
     return _kept("XDG_CACHE_HOME", [".cache"], names)
 

@@ -46,7 +46,7 @@ def number(text: str, spelling: re.Pattern[str] = PRICE) -> Exact | None:
 
 
 def spelled(value: Exact) -> str:
-    """A number as tables have it: as a decimal where that ends, and as a fraction where it does not. Either is exact."""
+    """A number as tables have it: as a decimal where that ends, and as a fraction if it does not. Either is exact."""
     rest, twos, fives = Fraction(value).denominator, 0, 0
     while rest % 2 == 0:
         rest, twos = rest // 2, twos + 1

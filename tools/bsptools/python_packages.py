@@ -31,7 +31,7 @@ def look_at_sites() -> None:
 
 
 def missing(module: str) -> str:
-    """The line that says which package to install where this Python lacks a module; nothing where it is here."""
+    """The line that says which package to install where this Python lacks a module; nothing if it is here."""
     look_at_sites()
     package = PACKAGES[module]
     return "" if importlib.util.find_spec(module) else f"{package} is missing: apt-get install {package}, or run scripts/toolchain"
@@ -62,7 +62,7 @@ def look_at_home(module: str) -> None:
 
 def borrow(module: str) -> str:
     """What is missing, after all was tried for a module that any Python can load: that of another Python is found too, and one that
-    scripts/toolchain brought. It is looked for where it is wanted, since most runs want none."""
+    scripts/toolchain brought. It is looked for if it is wanted, since most runs want none."""
     look_at_home(module)
     for python in others() if not os.environ.get(AGAIN) else []:
         if missing(module):
@@ -77,8 +77,8 @@ def borrow(module: str) -> str:
 def find(module: str, words: list[str]) -> str:
     """What is missing, after all was tried.
 
-    What is compiled belongs to one Python. Where this one lacks it, these words, a script and its arguments if there is one, are started anew
-    by another one, the distribution's or the first on the PATH, unless the person has the package in a folder of their own. Where neither
+    What is compiled belongs to one Python. If this one lacks it, these words, a script and its arguments if there is one, are started anew
+    by another one, the distribution's or the first on the PATH, unless the person has the package in a folder of their own. If neither
     has it, the distribution's starts them with what scripts/toolchain brought, and with the libraries that this needs.
     """
     look_at_home(module)

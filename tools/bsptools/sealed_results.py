@@ -43,7 +43,7 @@ def digest(content: bytes) -> str:
 
 @functools.lru_cache(maxsize=None)
 def own_key() -> Key:
-    """This user's key, which is made where there is none; one for this process alone where none can be kept."""
+    """This user's key, which is made if there is none; one for this process alone if none can be kept."""
     folder = own_folders.state("bspemu")
     if folder:
         path = os.path.join(folder, "key")
@@ -59,7 +59,7 @@ def own_key() -> Key:
 
 
 def _key_in(path: str) -> bytes:
-    """The key in a file; nothing where it has none, or where others may know it."""
+    """The key in a file; nothing if it has none, or where others may know it."""
     with contextlib.suppress(Refused, FileNotFoundError, ValueError):
         found = os.lstat(path)
         secret = bytes.fromhex(own_content(path, 3 * KEY_BYTES).decode())
@@ -98,7 +98,7 @@ def seal(with_ticket: str, record: Any) -> str:
 
 
 def found(path: str | os.PathLike[str], name: str) -> Any:
-    """What is kept in a file under a name; None where there is nothing, or it is not what this user's tools wrote."""
+    """What is kept in a file under a name; None if there is nothing, or it is not what this user's tools wrote."""
     with contextlib.suppress(Refused, OSError, ValueError, TypeError, KeyError, RecursionError):
         known = json.loads(own_content(path, MOST_TABLE))
         return known["record"] if hmac.compare_digest(known["seal"], seal(ticket(name), known["record"])) else None

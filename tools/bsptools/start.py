@@ -30,7 +30,7 @@ FOLDER = pathlib.Path(__file__).resolve().parents[1]
 
 
 def begin(name: str, words: list[str]) -> int:
-    """Runs a tool with these arguments to its end, also where that is a help that was asked for, and writes all that it has to say."""
+    """Runs a tool with these arguments to its end, also if that is a help that was asked for, and writes all that it has to say."""
     module, package = TOOLS[name]
     again = [str(FOLDER), name, *words] if (FOLDER / "__main__.py").exists() else []
     if package:
@@ -52,7 +52,7 @@ def main(name: str, words: list[str]) -> int:
 
 
 def ended(name: str, work: Callable[[], int]) -> int:
-    """Does the work of a tool; the exit status is answered, with a line where it could not be done."""
+    """Does the work of a tool; the exit status is answered, with a line if it could not be done."""
     try:
         return work()
     except Refused as refused:

@@ -14,7 +14,7 @@ SCRIPT = os.path.join(_TOP if os.path.isdir(_TOP) else os.path.join(_ABOVE, ".."
 
 @functools.lru_cache(maxsize=None)
 def folder() -> str:
-    """Where they are, as far as they may be taken; nothing where there are none. It is asked for where the system lacks something."""
+    """Where they are, as far as they may be taken; nothing if there are none. It is asked for where the system lacks something."""
     try:
         done = subprocess.run([SCRIPT, "--where"], stdin=subprocess.DEVNULL, stdout=subprocess.PIPE, check=False)
     except OSError:
@@ -23,12 +23,12 @@ def folder() -> str:
 
 
 def command(name: str) -> str:
-    """The path of one of their commands; nothing where there is none."""
+    """The path of one of their commands; nothing if there is none."""
     path = os.path.join(folder(), "bin", name)
     return path if folder() and os.access(path, os.X_OK) else ""
 
 
 def modules(name: str) -> str:
-    """The folder of Python's modules that has this one; nothing where there is none."""
+    """The folder of Python's modules that has this one; nothing if there is none."""
     path = os.path.join(folder(), "usr/lib/python3/dist-packages")
     return path if folder() and os.path.isdir(os.path.join(path, name)) else ""

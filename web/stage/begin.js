@@ -142,7 +142,10 @@ function connect() {
   };
   connectStage();
   document.addEventListener("keydown", onKey);
-  addEventListener("resize", () => moves?.seen && moves.arrowsAgain());
+  addEventListener("resize", () => {
+    moves?.seen && costs.draw();
+    moves?.seen && moves.arrowsAgain();
+  });
   addEventListener("beforeprint", beforePrint);
   addEventListener("afterprint", afterPrint);
   addEventListener("hashchange", () => follow(location.hash.slice(1)));
@@ -231,7 +234,7 @@ async function loadMachine() {
   }
   const record = await decoded("record");
   if (record === "null") {
-    throw new Error(why);
+    throw new Error(`${why} The page has no record of the run, which is too long for one.`);
   }
   recordOf = JSON.parse(record);
   $("other").hidden = true;
@@ -267,4 +270,4 @@ async function begin() {
   document.documentElement.dataset.ready = String(Math.round(performance.now()));
 }
 
-begin().catch((error) => say(`This page cannot run the machine. ${error.message ?? error}`, true));
+begin().catch((error) => say(`This page cannot show the run. ${error.message ?? error}`, true));

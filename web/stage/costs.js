@@ -3,9 +3,9 @@
 // The most columns of the picture behind the slider; where there are more supersteps, several of them share one, whose dearest is drawn.
 const MOST_COLUMNS = 400;
 const PICTURE_HEIGHT = 48;
-// The most supersteps that have a number below the slider, and the most that have their costs there too.
-const MOST_NUMBERED = 20;
-const MOST_COSTED = 10;
+// The pixels that a superstep's number takes below the slider, and those of its number with its cost.
+const NUMBER_WIDTH = 60;
+const COST_WIDTH = 100;
 
 /** The cost of each superstep at these prices. @param {Superstep[]} supersteps @param {bigint} g @param {bigint} l */
 const costOf = (it, g, l) => BigInt(it.most) + g * BigInt(it.h) + l;
@@ -146,10 +146,11 @@ class Costs {
   // The numbers of supersteps below the slider, and what each costs if there are few.
   drawNumbers() {
     const count = this.supersteps.length;
-    const step = roundStep(count / MOST_NUMBERED);
+    const room = $("numbers").clientWidth;
+    const step = roundStep(count / Math.max(1, Math.floor(room / NUMBER_WIDTH)));
     const marks = [];
     for (let k = 0; k < count; k += step) {
-      const cost = count <= MOST_COSTED ? `: ${grouped(costOf(this.supersteps[k], this.g, this.l))}` : "";
+      const cost = count <= room / COST_WIDTH ? `: ${grouped(costOf(this.supersteps[k], this.g, this.l))}` : "";
       const it = made("span", k === this.stop?.superstep ? "now" : "", made("span", "", `${k}${cost}`));
       it.style.left = `${(100 * (k + 0.5)) / count}%`;
       marks.push(it);

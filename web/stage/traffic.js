@@ -37,7 +37,7 @@ function trafficCell(from, to, count, most, hasNumbers) {
   const it = made("td", from === to ? "own" : "", hasNumbers && count > 0 ? grouped(count) : "");
   it.title = `${counted(count, "byte")} from rank ${from} to rank ${to}${from === to ? ", which do not count for h" : ""}`;
   if (count > 0 && from !== to) {
-    it.style.setProperty("--share", `${Math.round(15 + (45 * count) / most)}%`);
+    it.style.setProperty("--share", `${Math.round(12 + (33 * count) / most)}%`);
     it.classList.add("some");
   }
   return it;

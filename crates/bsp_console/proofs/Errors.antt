@@ -3,7 +3,7 @@ use Rattle.std.proofs.Common.{◌≢◌, ℕ, List, inr, refl}
 use Rattle.bsp_debug.specs.Debugger.{DebuggerState}
 use Rattle.bsp_session.specs.declared.errors.SessionError.{SessionError}
 use Rattle.bsp_session.specs.declared.errors.SessionError.TheVariants.{BadSettings, TooLong, Text, BadImage, SegmentOutside, ReadFault}
-use Rattle.bsp_session.specs.declared.errors.SessionError.TheVariants.{WriteFault, NoWorker, NoMemory}
+use Rattle.bsp_session.specs.declared.errors.SessionError.TheVariants.{TooManyNodes, WriteFault, NoWorker, NoMemory}
 use Rattle.bsp_session.specs.declared.job.Job.{Job}
 use Rattle.bsp_session.specs.Streams.{Stream}
 use Rattle.bsp_console.specs.Talk.{Says, answered_lines, plain}
@@ -18,6 +18,7 @@ error_of_talk says c start b TooLong p = inr (record { start = start; begins = b
 error_of_talk says c start b (Text cause) p = absurd p
 error_of_talk says c start b (BadImage cause) p = absurd p
 error_of_talk says c start b SegmentOutside p = absurd p
+error_of_talk says c start b TooManyNodes p = absurd p
 error_of_talk says c start b ReadFault p = inr (record { start = start; begins = b; came = p })
 error_of_talk says c start b WriteFault p = record { start = start; begins = b; came = p }
 error_of_talk says c start b NoWorker p = absurd p
@@ -31,6 +32,7 @@ talk-no_file says script out start TooLong p file = file
 talk-no_file says script out start (Text cause) p file = p
 talk-no_file says script out start (BadImage cause) p file = p
 talk-no_file says script out start SegmentOutside p file = p
+talk-no_file says script out start TooManyNodes p file = p
 talk-no_file says script out start ReadFault p file = file
 talk-no_file says script out start WriteFault p file = file
 talk-no_file says script out start NoWorker p file = p
@@ -43,6 +45,7 @@ error_of_lines c start s b r TooLong p = absurd p
 error_of_lines c start s b r (Text cause) p = absurd p
 error_of_lines c start s b r (BadImage cause) p = absurd p
 error_of_lines c start s b r SegmentOutside p = absurd p
+error_of_lines c start s b r TooManyNodes p = absurd p
 error_of_lines c start s b r ReadFault p = absurd p
 error_of_lines c start s b r WriteFault p = record { start = start; begins = b; came = record { script = s; read = r; done = p } }
 error_of_lines c start s b r NoWorker p = absurd p
@@ -61,6 +64,7 @@ lines-written says lines start out TooLong p write memory = p
 lines-written says lines start out (Text cause) p write memory = p
 lines-written says lines start out (BadImage cause) p write memory = p
 lines-written says lines start out SegmentOutside p write memory = p
+lines-written says lines start out TooManyNodes p write memory = p
 lines-written says lines start out ReadFault p write memory = p
 lines-written says lines start out WriteFault p write memory = write refl
 lines-written says lines start out NoWorker p write memory = p

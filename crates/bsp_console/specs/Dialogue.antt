@@ -5,7 +5,7 @@ use Rattle.std.specs.Io.KnownBytes.{Consumes, IsAtEnd}
 use Rattle.bsp_debug.specs.Debugger.{DebuggerState}
 use Rattle.bsp_session.specs.declared.errors.SessionError.{SessionError}
 use Rattle.bsp_session.specs.declared.errors.SessionError.TheVariants.{BadSettings, TooLong, Text, BadImage, SegmentOutside, ReadFault}
-use Rattle.bsp_session.specs.declared.errors.SessionError.TheVariants.{WriteFault, NoWorker, NoMemory}
+use Rattle.bsp_session.specs.declared.errors.SessionError.TheVariants.{TooManyNodes, WriteFault, NoWorker, NoMemory}
 use Rattle.bsp_session.specs.Streams.{Stream, IsUntouched, ReadsPast, HasFailed}
 use Rattle.debug_lines.specs.declared.line.Line.{Line}
 use Rattle.debug_lines.specs.Lines.{line_of, dialogue_line_of, framed_line_of}
@@ -102,6 +102,7 @@ IsErrorOfTalking says c TooLong = StopsAtFiles c TooLong ⊎ EndsTalking says c 
 IsErrorOfTalking says c (Text cause) = IsRefusedAtOnce c (Text cause)
 IsErrorOfTalking says c (BadImage cause) = IsRefusedAtOnce c (BadImage cause)
 IsErrorOfTalking says c SegmentOutside = IsRefusedAtOnce c SegmentOutside
+IsErrorOfTalking says c TooManyNodes = ⊥
 IsErrorOfTalking says c ReadFault = StopsAtFiles c ReadFault ⊎ EndsTalking says c ReadFault
 IsErrorOfTalking says c WriteFault = EndsTalking says c WriteFault
 IsErrorOfTalking says c NoWorker = ⊥

@@ -6,7 +6,7 @@ use Rattle.counted_io.specs.declared.ReadError.{ReadError}
 use Rattle.counted_io.specs.declared.ReadError.TheVariants as read
 use Rattle.bsp_session.specs.declared.errors.SessionError.{SessionError}
 use Rattle.bsp_session.specs.declared.errors.SessionError.TheVariants.{BadSettings, TooLong, Text, BadImage, SegmentOutside, ReadFault}
-use Rattle.bsp_session.specs.declared.errors.SessionError.TheVariants.{WriteFault, NoWorker, NoMemory}
+use Rattle.bsp_session.specs.declared.errors.SessionError.TheVariants.{TooManyNodes, WriteFault, NoWorker, NoMemory}
 use Rattle.bsp_session.specs.Session.{ReadsFiles}
 use Rattle.bsp_session.specs.Streams.{Stream, IsReadErrorOf, IsUntouched, ReadsWhole}
 use Rattle.bsp_console.specs.Talk.{Says, answered_lines, plain}
@@ -60,6 +60,7 @@ IsErrorOfScript c TooLong = StopsAtFiles c TooLong ⊎ EndsAtScript c read.TooLo
 IsErrorOfScript c (Text cause) = IsRefusedAfterReading c (Text cause)
 IsErrorOfScript c (BadImage cause) = IsRefusedAfterReading c (BadImage cause)
 IsErrorOfScript c SegmentOutside = IsRefusedAfterReading c SegmentOutside
+IsErrorOfScript c TooManyNodes = ⊥
 IsErrorOfScript c ReadFault = StopsAtFiles c ReadFault ⊎ EndsAtScript c read.ReadFault
 IsErrorOfScript c WriteFault = EndsAnswering c WriteFault
 IsErrorOfScript c NoWorker = ⊥

@@ -14,7 +14,7 @@ use Rattle.rv_listing.specs.declared.lines.Line.{Line}
 use Rattle.rv_listing.specs.Listing.{ended_line, listing_of, listing_of_segment}
 use Rattle.bsp_session.specs.declared.errors.SessionError.{SessionError}
 use Rattle.bsp_session.specs.declared.errors.SessionError.TheVariants.{BadSettings, TooLong, Text, BadImage, SegmentOutside, ReadFault}
-use Rattle.bsp_session.specs.declared.errors.SessionError.TheVariants.{WriteFault, NoWorker, NoMemory}
+use Rattle.bsp_session.specs.declared.errors.SessionError.TheVariants.{TooManyNodes, WriteFault, NoWorker, NoMemory}
 use Rattle.bsp_session.specs.declared.job.Format.TheVariants.{Asm}
 use Rattle.bsp_session.specs.Conversion.{AppendsFirstLines, Conversion, EndsUnread, IsErrorOfAssembly, IsErrorOfLines, IsErrorOfListing}
 use Rattle.bsp_session.specs.Conversion.{ReadsImage, lines_of_image, lines_of_segment}
@@ -126,6 +126,7 @@ IsErrorOfLines-at extensions image segments place segment out next TooLong all w
 IsErrorOfLines-at extensions image segments place segment out next (Text cause) all within is same count rises before p = absurd p
 IsErrorOfLines-at extensions image segments place segment out next (BadImage cause) all within is same count rises before p = absurd p
 IsErrorOfLines-at extensions image segments place segment out next SegmentOutside all within is same count rises before p = absurd p
+IsErrorOfLines-at extensions image segments place segment out next TooManyNodes all within is same count rises before p = absurd p
 IsErrorOfLines-at extensions image segments place segment out next ReadFault all within is same count rises before p = absurd p
 IsErrorOfLines-at extensions image segments place segment out next NoWorker all within is same count rises before p = absurd p
 
@@ -146,5 +147,6 @@ IsErrorOfListing-lines extensions c m TooLong given p = absurd p
 IsErrorOfListing-lines extensions c m (Text cause) given p = absurd p
 IsErrorOfListing-lines extensions c m (BadImage cause) given p = absurd p
 IsErrorOfListing-lines extensions c m SegmentOutside given p = absurd p
+IsErrorOfListing-lines extensions c m TooManyNodes given p = absurd p
 IsErrorOfListing-lines extensions c m ReadFault given p = absurd p
 IsErrorOfListing-lines extensions c m NoWorker given p = absurd p

@@ -2,6 +2,7 @@ pub mod Conversions
 pub mod Jobs
 pub mod LiveErrors
 pub mod Outputs
+pub mod Profiled
 pub mod Refusals
 pub mod SessionErrors
 pub mod Supersteps

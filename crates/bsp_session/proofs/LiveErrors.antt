@@ -15,7 +15,7 @@ use Rattle.worker_pool.specs.Numbers.{numbers_fault}
 use Rattle.bsp_session.specs.declared.errors.BadSetting.{BadSetting}
 use Rattle.bsp_session.specs.declared.errors.SessionError.{SessionError}
 use Rattle.bsp_session.specs.declared.errors.SessionError.TheVariants.{BadSettings, TooLong, Text, BadImage, SegmentOutside, ReadFault}
-use Rattle.bsp_session.specs.declared.errors.SessionError.TheVariants.{WriteFault, NoWorker, NoMemory}
+use Rattle.bsp_session.specs.declared.errors.SessionError.TheVariants.{TooManyNodes, WriteFault, NoWorker, NoMemory}
 use Rattle.bsp_session.specs.declared.job.Job.{Job}
 use Rattle.bsp_session.specs.Live.{AppendsSome, FailsAt, IsErrorOfLive, IsErrorOfLiveRun, IsErrorOfSuperstep, MayComeLate, WantsThreads}
 use Rattle.bsp_session.specs.Live.{IsErrorOfPlainRun, IsErrorOfPlainSuperstep}
@@ -67,6 +67,7 @@ IsErrorOfPlainRun-at start m k out next TooLong is ends none same count rises be
 IsErrorOfPlainRun-at start m k out next (Text cause) is ends none same count rises before p = absurd p
 IsErrorOfPlainRun-at start m k out next (BadImage cause) is ends none same count rises before p = absurd p
 IsErrorOfPlainRun-at start m k out next SegmentOutside is ends none same count rises before p = absurd p
+IsErrorOfPlainRun-at start m k out next TooManyNodes is ends none same count rises before p = absurd p
 IsErrorOfPlainRun-at start m k out next ReadFault is ends none same count rises before p = absurd p
 
 -- and in any number of threads
@@ -89,6 +90,7 @@ IsErrorOfLiveRun-at job start m k out next TooLong is ends settings none same co
 IsErrorOfLiveRun-at job start m k out next (Text cause) is ends settings none same count rises before p = absurd p
 IsErrorOfLiveRun-at job start m k out next (BadImage cause) is ends settings none same count rises before p = absurd p
 IsErrorOfLiveRun-at job start m k out next SegmentOutside is ends settings none same count rises before p = absurd p
+IsErrorOfLiveRun-at job start m k out next TooManyNodes is ends settings none same count rises before p = absurd p
 IsErrorOfLiveRun-at job start m k out next ReadFault is ends settings none same count rises before p = absurd p
 
 -- it may come late
@@ -101,6 +103,7 @@ late job start out TooLong p = absurd p
 late job start out (Text cause) p = absurd p
 late job start out (BadImage cause) p = absurd p
 late job start out SegmentOutside p = absurd p
+late job start out TooManyNodes p = absurd p
 late job start out ReadFault p = absurd p
 
 -- and is one of the session
@@ -115,6 +118,7 @@ IsErrorOfLive-run s start TooLong starts p = absurd p
 IsErrorOfLive-run s start (Text cause) starts p = absurd p
 IsErrorOfLive-run s start (BadImage cause) starts p = absurd p
 IsErrorOfLive-run s start SegmentOutside starts p = absurd p
+IsErrorOfLive-run s start TooManyNodes starts p = absurd p
 IsErrorOfLive-run s start ReadFault starts p = absurd p
 
 -- so is an error of a session that writes at the end
@@ -139,6 +143,7 @@ IsErrorOfLive-of s TooLong why = why
 IsErrorOfLive-of s (Text cause) why = why
 IsErrorOfLive-of s (BadImage cause) why = why
 IsErrorOfLive-of s SegmentOutside why = why
+IsErrorOfLive-of s TooManyNodes why = why
 IsErrorOfLive-of s ReadFault why = why
 
 -- and why the lines behind the whole output were not all written
@@ -192,6 +197,7 @@ settings_late job (Err TooLong) none late cause = absurd late
 settings_late job (Err (Text fault)) none late cause = absurd late
 settings_late job (Err (BadImage fault)) none late cause = absurd late
 settings_late job (Err SegmentOutside) none late cause = absurd late
+settings_late job (Err TooManyNodes) none late cause = absurd late
 settings_late job (Err ReadFault) none late cause = absurd late
 
 -- ---- in one thread
@@ -207,6 +213,7 @@ IsErrorOfLiveRun-plain job start out TooLong p = absurd p
 IsErrorOfLiveRun-plain job start out (Text cause) p = absurd p
 IsErrorOfLiveRun-plain job start out (BadImage cause) p = absurd p
 IsErrorOfLiveRun-plain job start out SegmentOutside p = absurd p
+IsErrorOfLiveRun-plain job start out TooManyNodes p = absurd p
 IsErrorOfLiveRun-plain job start out ReadFault p = absurd p
 
 -- no thread has a part in it

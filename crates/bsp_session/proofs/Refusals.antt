@@ -14,7 +14,7 @@ use Rattle.machine_core.specs.Faults.{NamesFault}
 use Rattle.machine_core.specs.Machine.{machine_fault, settings_fault}
 use Rattle.bsp_session.specs.declared.errors.SessionError.{SessionError}
 use Rattle.bsp_session.specs.declared.errors.SessionError.TheVariants.{BadSettings, TooLong, Text, BadImage, SegmentOutside, ReadFault}
-use Rattle.bsp_session.specs.declared.errors.SessionError.TheVariants.{WriteFault, NoWorker, NoMemory}
+use Rattle.bsp_session.specs.declared.errors.SessionError.TheVariants.{TooManyNodes, WriteFault, NoWorker, NoMemory}
 use Rattle.bsp_session.specs.declared.job.Format.{Format}
 use Rattle.bsp_session.specs.declared.job.Format.TheVariants.{Elf, Raw, Asm}
 use Rattle.bsp_session.specs.declared.job.Job.{Job}
@@ -53,6 +53,7 @@ of_image format file P memory text image NoMemory made = memory
 of_image format file P memory text image (BadSettings cause) made = absurd (is_of_file format file (BadSettings cause) (made (λ is. cc)))
 of_image format file P memory text image TooLong made = absurd (is_of_file format file TooLong (made (λ is. cc)))
 of_image format file P memory text image SegmentOutside made = absurd (is_of_file format file SegmentOutside (made (λ is. cc)))
+of_image format file P memory text image TooManyNodes made = absurd (is_of_file format file TooManyNodes (made (λ is. cc)))
 of_image format file P memory text image ReadFault made = absurd (is_of_file format file ReadFault (made (λ is. cc)))
 of_image format file P memory text image WriteFault made = absurd (is_of_file format file WriteFault (made (λ is. cc)))
 of_image format file P memory text image NoWorker made = absurd (is_of_file format file NoWorker (made (λ is. cc)))

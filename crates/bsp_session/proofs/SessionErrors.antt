@@ -9,7 +9,7 @@ use Rattle.machine_core.specs.Turn.{end_of}
 use Rattle.bsp_session.specs.declared.errors.BadSetting.{BadSetting}
 use Rattle.bsp_session.specs.declared.errors.SessionError.{SessionError}
 use Rattle.bsp_session.specs.declared.errors.SessionError.TheVariants.{BadSettings, TooLong, Text, BadImage, SegmentOutside, ReadFault}
-use Rattle.bsp_session.specs.declared.errors.SessionError.TheVariants.{WriteFault, NoWorker, NoMemory}
+use Rattle.bsp_session.specs.declared.errors.SessionError.TheVariants.{TooManyNodes, WriteFault, NoWorker, NoMemory}
 use Rattle.bsp_session.specs.Outcome.{error_of_read}
 use Rattle.bsp_session.specs.Report.{report_of}
 use Rattle.bsp_session.specs.declared.job.Job.{Job}
@@ -27,6 +27,7 @@ IsErrorOfFiles-settings job image input TooLong fault first second = absurd (gri
 IsErrorOfFiles-settings job image input (Text cause) fault first second = absurd (grind arith)
 IsErrorOfFiles-settings job image input (BadImage cause) fault first second = absurd (grind arith)
 IsErrorOfFiles-settings job image input SegmentOutside fault first second = absurd (grind arith)
+IsErrorOfFiles-settings job image input TooManyNodes fault first second = absurd (grind arith)
 IsErrorOfFiles-settings job image input ReadFault fault first second = absurd (grind arith)
 IsErrorOfFiles-settings job image input WriteFault fault first second = absurd (grind arith)
 IsErrorOfFiles-settings job image input NoWorker fault first second = absurd (grind arith)
@@ -47,6 +48,7 @@ IsErrorOf-files s TooLong why untouched = record { cause = why; unwritten = unto
 IsErrorOf-files s (Text cause) why untouched = absurd why
 IsErrorOf-files s (BadImage cause) why untouched = absurd why
 IsErrorOf-files s SegmentOutside why untouched = absurd why
+IsErrorOf-files s TooManyNodes why untouched = absurd why
 IsErrorOf-files s ReadFault why untouched = record { cause = why; unwritten = untouched }
 IsErrorOf-files s WriteFault why untouched = absurd why
 IsErrorOf-files s NoWorker why untouched = absurd why
@@ -59,6 +61,7 @@ IsErrorOf-run s i n TooLong both why untouched = absurd why
 IsErrorOf-run s i n (Text cause) both why untouched = record { i = i; n = n; read = both; cause = why; unwritten = untouched }
 IsErrorOf-run s i n (BadImage cause) both why untouched = record { i = i; n = n; read = both; cause = why; unwritten = untouched }
 IsErrorOf-run s i n SegmentOutside both why untouched = record { i = i; n = n; read = both; cause = why; unwritten = untouched }
+IsErrorOf-run s i n TooManyNodes both why untouched = absurd why
 IsErrorOf-run s i n ReadFault both why untouched = absurd why
 IsErrorOf-run s i n WriteFault both why untouched = absurd why
 IsErrorOf-run s i n NoWorker both why untouched = record { i = i; n = n; read = both; cause = why; unwritten = untouched }
@@ -89,6 +92,7 @@ IsErrorOf-threads s start TooLong starts untouched why = absurd why
 IsErrorOf-threads s start (Text cause) starts untouched why = absurd why
 IsErrorOf-threads s start (BadImage cause) starts untouched why = absurd why
 IsErrorOf-threads s start SegmentOutside starts untouched why = absurd why
+IsErrorOf-threads s start TooManyNodes starts untouched why = absurd why
 IsErrorOf-threads s start ReadFault starts untouched why = absurd why
 IsErrorOf-threads s start WriteFault starts untouched why = absurd why
 
@@ -110,6 +114,7 @@ IsErrorOf-report s start end TooLong starts is why = absurd why
 IsErrorOf-report s start end (Text cause) starts is why = absurd why
 IsErrorOf-report s start end (BadImage cause) starts is why = absurd why
 IsErrorOf-report s start end SegmentOutside starts is why = absurd why
+IsErrorOf-report s start end TooManyNodes starts is why = absurd why
 IsErrorOf-report s start end ReadFault starts is why = absurd why
 
 -- in which no thread has a part
@@ -134,6 +139,7 @@ settings_exact s (Err TooLong) none err cause = let good = err.cause.settings in
 settings_exact s (Err (Text fault)) none err cause = let good = err.read.settings in (λ is. cc, λ fault. cc)
 settings_exact s (Err (BadImage fault)) none err cause = let good = err.read.settings in (λ is. cc, λ fault. cc)
 settings_exact s (Err SegmentOutside) none err cause = let good = err.read.settings in (λ is. cc, λ fault. cc)
+settings_exact s (Err TooManyNodes) none err cause = absurd err
 settings_exact s (Err ReadFault) none err cause = let good = err.cause.settings in (λ is. cc, λ fault. cc)
 settings_exact s (Err WriteFault) none err cause = let good = err.starts.read.settings in (λ is. cc, λ fault. cc)
 settings_exact s (Err NoWorker) none err cause = let good = err.read.settings in (λ is. cc, λ fault. cc)

@@ -5,7 +5,7 @@ use Rattle.machine_core.specs.Machine.{MachineState}
 use Rattle.machine_core.specs.Turn.{end_of}
 use Rattle.bsp_session.specs.declared.errors.SessionError.{SessionError}
 use Rattle.bsp_session.specs.declared.errors.SessionError.TheVariants.{BadSettings, TooLong, Text, BadImage, SegmentOutside, ReadFault}
-use Rattle.bsp_session.specs.declared.errors.SessionError.TheVariants.{WriteFault, NoWorker, NoMemory}
+use Rattle.bsp_session.specs.declared.errors.SessionError.TheVariants.{TooManyNodes, WriteFault, NoWorker, NoMemory}
 use Rattle.bsp_session.specs.declared.job.Job.{Job}
 use Rattle.bsp_session.specs.Session.{IsErrorOf, IsErrorOfReport, Session, StartsAt}
 use Rattle.bsp_session.specs.Streams.{IsUntouched, Stream}
@@ -20,6 +20,7 @@ untold Tells s told TooLong why untouched = (why, untouched)
 untold Tells s told (Text cause) why untouched = (why, untouched)
 untold Tells s told (BadImage cause) why untouched = (why, untouched)
 untold Tells s told SegmentOutside why untouched = (why, untouched)
+untold Tells s told TooManyNodes why untouched = (why, untouched)
 untold Tells s told ReadFault why untouched = (why, untouched)
 untold Tells s told WriteFault why untouched = inl (why, untouched)
 untold Tells s told NoWorker why untouched = (why, untouched)
@@ -37,6 +38,7 @@ unbegun job end text out told TooLong why untouched = absurd why
 unbegun job end text out told (Text cause) why untouched = absurd why
 unbegun job end text out told (BadImage cause) why untouched = absurd why
 unbegun job end text out told SegmentOutside why untouched = absurd why
+unbegun job end text out told TooManyNodes why untouched = absurd why
 unbegun job end text out told ReadFault why untouched = absurd why
 
 -- in which no thread has a part
@@ -74,4 +76,5 @@ module _ (Tells : MachineState → List ℕ → Type 0) (s : Session) (told : St
   IsErrorOfTold-both (Text cause) why = absurd why
   IsErrorOfTold-both (BadImage cause) why = absurd why
   IsErrorOfTold-both SegmentOutside why = absurd why
+  IsErrorOfTold-both TooManyNodes why = absurd why
   IsErrorOfTold-both ReadFault why = absurd why

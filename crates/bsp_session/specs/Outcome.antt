@@ -19,7 +19,7 @@ use Rattle.bsp_session.specs.declared.errors.BadSetting.{BadSetting}
 use Rattle.bsp_session.specs.declared.errors.BadSetting.TheVariants.{BadNodes, BadMemory, BadLimit, BadWorkers, BadSlice}
 use Rattle.bsp_session.specs.declared.errors.SessionError.{SessionError}
 use Rattle.bsp_session.specs.declared.errors.SessionError.TheVariants.{BadSettings, TooLong, Text, BadImage, SegmentOutside, ReadFault}
-use Rattle.bsp_session.specs.declared.errors.SessionError.TheVariants.{WriteFault, NoWorker, NoMemory}
+use Rattle.bsp_session.specs.declared.errors.SessionError.TheVariants.{TooManyNodes, WriteFault, NoWorker, NoMemory}
 
 -- what a bad setting is called in a line to the user
 abbrev pub name_of : BadSetting → List ℕ
@@ -52,6 +52,7 @@ status_of_error TooLong = 1
 status_of_error (Text _) = 1
 status_of_error (BadImage _) = 1
 status_of_error SegmentOutside = 1
+status_of_error TooManyNodes = 1
 status_of_error ReadFault = 6
 status_of_error WriteFault = 6
 status_of_error NoWorker = 5

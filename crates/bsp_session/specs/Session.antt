@@ -13,7 +13,7 @@ use Rattle.machine_core.specs.Turn.{end_of}
 use Rattle.worker_pool.specs.Numbers.{numbers_fault}
 use Rattle.bsp_session.specs.declared.errors.SessionError.{SessionError}
 use Rattle.bsp_session.specs.declared.errors.SessionError.TheVariants.{BadSettings, TooLong, Text, BadImage, SegmentOutside, ReadFault}
-use Rattle.bsp_session.specs.declared.errors.SessionError.TheVariants.{WriteFault, NoWorker, NoMemory}
+use Rattle.bsp_session.specs.declared.errors.SessionError.TheVariants.{TooManyNodes, WriteFault, NoWorker, NoMemory}
 use Rattle.bsp_session.specs.declared.job.Job.{Job}
 use Rattle.bsp_session.specs.Images.{most_bytes, Gives, image_fault}
 use Rattle.bsp_session.specs.Outcome.{error_of_machine, error_of_pool}
@@ -151,6 +151,7 @@ IsErrorOf s TooLong = EndsReading s TooLong
 IsErrorOf s (Text cause) = EndsUnrun s (Text cause)
 IsErrorOf s (BadImage cause) = EndsUnrun s (BadImage cause)
 IsErrorOf s SegmentOutside = EndsUnrun s SegmentOutside
+IsErrorOf s TooManyNodes = ⊥
 IsErrorOf s ReadFault = EndsReading s ReadFault
 IsErrorOf s WriteFault = ReportsPart s
 IsErrorOf s NoWorker = EndsUnrun s NoWorker

@@ -65,6 +65,9 @@ pub enum SessionError {
     /// The image reaches past the memory of a node.
     #[error("image refused: SegmentOutside")]
     SegmentOutside,
+    /// A profile was asked for of a large machine with more than 1,024 nodes. Nothing was read or written.
+    #[error("a run with a profile has at most 1024 nodes")]
+    TooManyNodes,
     /// A call of a reader failed: of an image's, an input's or that of a debugger's lines.
     #[error("read failed")]
     ReadFault,
@@ -85,7 +88,7 @@ pub enum SessionError {
 /// | Status | Answer |
 /// |---|---|
 /// | 0 | every node ended |
-/// | 1 | settings refused, or an image, an input or a debugger's lines |
+/// | 1 | settings refused, or the number of nodes for a profile, or an image, an input or a debugger's lines |
 /// | 2 | a node's fault or `abort` |
 /// | 3 | a node's limit of ticks |
 /// | 4 | nodes that wait for one that ended, or an exchange that is refused |
@@ -109,7 +112,8 @@ pub fn status(answer: &Result<Outcome, SessionError>) -> u8
             | SessionError::TooLong
             | SessionError::Text(_)
             | SessionError::BadImage(_)
-            | SessionError::SegmentOutside,
+            | SessionError::SegmentOutside
+            | SessionError::TooManyNodes,
         ) => 1,
         Err(SessionError::ReadFault | SessionError::WriteFault) => 6,
         Err(SessionError::NoWorker | SessionError::NoMemory) => 5,

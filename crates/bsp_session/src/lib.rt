@@ -22,7 +22,8 @@
 //! - A listing ([`list_session`]) and a saved image ([`asm_session`]) have the same rules, for the stages that they have. Only a
 //!   listing may be refused memory after something was written: it ends after a whole line then.
 //! - A run with a profile ([`profile_session`]) has the same report and the same errors. The profile covers the run from its start. It is
-//!   complete before anything is written, and it is written after the report. Only a fault of its own writer leaves a part of it.
+//!   complete before anything is written, and it is written after the report. Only a fault of its own writer leaves a part of it. A large
+//!   machine with more than 1,024 nodes has no profile: [`SessionError::TooManyNodes`] is answered before all other errors.
 //! - So has a run with counts ([`counts_session`]), which makes all steps in one thread.
 //! - So has a run that reports contested bytes ([`contested_session`]), and one that reports what its calls expose ([`exposed_session`]),
 //!   in one thread.
@@ -69,5 +70,5 @@ pub use live::live_session;
 pub use machine_core::{Outcome, Prices, Settings};
 pub use plain::{plain_profile_session, plain_session};
 pub use plain_live::plain_live_session;
-pub use profiles::profile_session;
+pub use profiles::{has_too_many_nodes, profile_session};
 pub use sessions::{most_input, session};

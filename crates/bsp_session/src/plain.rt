@@ -2,12 +2,13 @@
 
 ghost use Rattle.std.specs.Prelude.{◌≡◌, ◌≢◌, ◌↔◌, Some, None, IfOk, IfErr, IsErrOf};
 ghost use Rattle.bsp_session.specs.declared.errors.BadSetting.{BadSetting as BadSettingCause};
-ghost use Rattle.bsp_session.specs.Profiles.{IsErrorOfProfiled, Profiles};
+ghost use Rattle.bsp_session.specs.Profiles.{HasTooManyNodes, IsErrorOfProfiled, Profiles};
 ghost use Rattle.bsp_session.specs.Streams.{stream};
 ghost use Rattle.bsp_session.specs.Session.{IsErrorOf, Reports, job_fault, session_of};
 
 use crate::errors::SessionError;
 use crate::job::Job;
+use crate::profiles::has_too_many_nodes;
 use crate::report::{outcome_of, write_both, write_report};
 use crate::sessions::start;
 use bsp_profile::{Profile, run_plain};
@@ -67,12 +68,18 @@ pub fn plain_profile_session<A: Allocator + Copy, I: Read, R: Read, W: Write, P:
         (stream R.remaining input.old input.new) (stream W.contents out.old out.new) job.now)
         (stream P.contents profile.old profile.new) e) }
     ensures no_worker { IfErr result (λ e. e ≢ SessionError.NoWorker) }
+    ensures too_many_nodes { IsErrOf result SessionError.TooManyNodes ↔ HasTooManyNodes job.now }
     // What is not touched stays as it was, also where its bytes are not known.
     ensures settings_first { job_fault job.now ≢ None
+        → (image.new ≡ image.old) × (input.new ≡ input.old) }
+    ensures nodes_first { HasTooManyNodes job.now
         → (image.new ≡ image.old) × (input.new ≡ input.old) }
     ensures nothing_written { IfErr result (λ e. e ≢ SessionError.WriteFault
         → (out.new ≡ out.old) × (profile.new ≡ profile.old)) }
 {
+    if has_too_many_nodes(job) {
+        return Err(SessionError::TooManyNodes);
+    }
     let mut machine = start(alloc, image, input, job)?;
     let mut told = Profile::new(alloc)?;
     run_plain(&mut machine, &mut told)?;

@@ -1,19 +1,21 @@
 -- What a session's answer is among those of the program.
-use Rattle.std.proofs.Common.{◌≡◌, Result, Ok, Err, refl}
+use Rattle.std.proofs.Common.{◌≡◌, Result, Ok, Err, None, refl}
 use Rattle.std.specs.Prelude.{IfErr, IfOk, OnOk}
 use Rattle.std.specs.Borrow.{Bor}
 use Rattle.clap.specs.Words.{Text}
 use Rattle.machine_core.specs.declared.outcome.Outcome.{Outcome}
 use Rattle.bsp_session.specs.declared.errors.SessionError.{SessionError}
+use Rattle.bsp_session.specs.declared.errors.SessionError.TheVariants.{TooManyNodes}
 use Rattle.bsp_session.specs.declared.job.Format.TheVariants.{Asm}
 use Rattle.bsp_session.specs.Contested.{Contests, IsErrorOfContested}
 use Rattle.bsp_session.specs.Conversion.{AnswersAssembly, AnswersListing, Conversion, IsErrorOfAssembly, IsErrorOfListing}
 use Rattle.bsp_session.specs.Counts.{Counts, IsErrorOfCounted}
 use Rattle.bsp_session.specs.Exposed.{Exposes, IsErrorOfExposed}
 use Rattle.bsp_session.specs.Live.{IsErrorOfLive}
-use Rattle.bsp_session.specs.Profiles.{IsErrorOfProfiled, Profiles}
-use Rattle.bsp_session.specs.Session.{IsErrorOf, Reports, Session as BatchSession}
+use Rattle.bsp_session.specs.Profiles.{HasTooManyNodes, IsErrorOfProfiled, Profiles}
+use Rattle.bsp_session.specs.Session.{IsErrorOf, Reports, Session as BatchSession, session_of}
 use Rattle.bsp_session.specs.Streams.{Stream}
+use Rattle.bspemu.specs.declared.program.RunError.TheVariants.{Session}
 use Rattle.bspemu.specs.declared.options.AsmOptions.{AsmOptions}
 use Rattle.bspemu.specs.declared.options.DebugOptions.{DebugOptions}
 use Rattle.bspemu.specs.declared.options.ListOptions.{ListOptions}
@@ -37,6 +39,25 @@ pub answer_of_profiled : (o : MachineOptions) (file : Bor Text) (s : BatchSessio
     → IfOk r (Profiles s profile) → IfErr r (IsErrorOfProfiled s profile) → IsAnswerOfRun o (WithProfile file) (answer_of_session r)
 answer_of_profiled o file s profile (Ok outcome) same ok err = (s, same, (profile, ok))
 answer_of_profiled o file s profile (Err e) same ok err = (s, same, (profile, err))
+
+-- too many nodes are refused before anything is read or written
+pub answer_of_too_many : (o : MachineOptions) (file : Bor Text) → HasTooManyNodes o.job
+    → IsAnswerOfRun o (WithProfile file) (Err (Session TooManyNodes))
+answer_of_too_many o file many =
+    let none : Stream = record { before = None; after = None; failures_before = 0; failures_after = 0 } in (
+      session_of none none none o.job,
+      refl,
+      (
+        none,
+        record {
+          nodes = many;
+          image = record { bytes = refl; failures = refl };
+          input = record { bytes = refl; failures = refl };
+          out = record { bytes = refl; failures = refl };
+          unwritten = record { bytes = refl; failures = refl };
+        },
+      ),
+    )
 
 pub answer_of_counted : (o : MachineOptions) (file : Bor Text) (s : BatchSession) (counts : Stream) (r : Result Outcome SessionError)
     → s.job ≡ o.job

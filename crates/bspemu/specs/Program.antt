@@ -1,5 +1,5 @@
 -- How the program ends (own rules).
-use Rattle.std.specs.Prelude.{◌≡◌, ◌≢◌, ◌⊎◌, ◌++◌, ◌<◌, ℕ, Bool, true, false, Option, None, List, Some, Result, Ok, Err, codes}
+use Rattle.std.specs.Prelude.{◌≡◌, ◌≢◌, ◌⊎◌, ◌++◌, ℕ, Bool, true, false, Option, None, List, Some, Result, Ok, Err, codes}
 use Rattle.std.specs.Borrow.{Bor}
 use Rattle.rv_atomics.specs.declared.extensions.Extensions.{Extensions}
 use Rattle.clap.specs.Words.{Text, kind_of}
@@ -33,13 +33,12 @@ use Rattle.bspemu.specs.declared.options.AsmOptions.{AsmOptions}
 use Rattle.bspemu.specs.declared.options.Action.{Action}
 use Rattle.bspemu.specs.declared.options.Action.TheVariants as action
 use Rattle.bspemu.specs.declared.program.RunError.{RunError}
-use Rattle.bspemu.specs.declared.program.RunError.TheVariants.{CannotOpen, TooManyNodes, Session}
+use Rattle.bspemu.specs.declared.program.RunError.TheVariants.{CannotOpen, Session}
 use Rattle.bspemu.specs.Options.{AsksFor, IsFaultOf}
 
 -- what an error prints as, after the program's name; a session's is its own text
 abbrev pub text_of_error : RunError → Option Text
 text_of_error (CannotOpen path) = Some (codes "cannot open " ++ path.now)
-text_of_error TooManyNodes = Some (codes "cannot write a profile of more than 1024 nodes; use fewer nodes, or no --profile")
 text_of_error (Session error) = None
 
 -- the options name this file: as the image, which is not standard input, or as the input
@@ -53,15 +52,6 @@ TellsTo (WithCounts file) path = file ≡ path
 TellsTo (WithContested file) path = file ≡ path
 TellsTo (WithExposed file) path = file ≡ path
 TellsTo _ path = ⊥
-
--- own limit: the nodes of a run with a profile, whose table has a row and a column for each
-abbrev pub most_profiled : ℕ
-most_profiled = 1024
-
--- a profile was asked for of a large machine with more nodes
-abbrev pub HasTooManyNodes : MachineOptions → OutputMode → Type 0
-HasTooManyNodes o (WithProfile file) = (o.job.settings.large ≡ true) × (most_profiled < o.job.settings.nodes)
-HasTooManyNodes o _ = ⊥
 
 -- the answer of a session, and of one that has no outcome
 abbrev pub answer_of_session : Result Outcome SessionError → Result Outcome RunError
@@ -94,7 +84,6 @@ IsErrorTold (WithExposed file) s error = (exposed : Stream) × IsErrorOfExposed 
 abbrev pub IsAnswerOfRun : MachineOptions → OutputMode → Result Outcome RunError → Type 0
 IsAnswerOfRun o output_mode (Ok outcome) = (s : BatchSession) × (s.job ≡ o.job) × IsOutcomeOf output_mode s outcome
 IsAnswerOfRun o output_mode (Err (CannotOpen path)) = NamesFile o path ⊎ TellsTo output_mode path
-IsAnswerOfRun o output_mode (Err TooManyNodes) = HasTooManyNodes o output_mode
 IsAnswerOfRun o output_mode (Err (Session error)) = (s : BatchSession) × (s.job ≡ o.job) × IsErrorTold output_mode s error
 
 -- lines were all answered with a debugger of such a job, in frames or not, and an error that this can have, whatever is read and written
@@ -110,7 +99,6 @@ IsDebugError false job error = (c : Console) × (c.job ≡ job) × (IsErrorOfScr
 abbrev pub IsAnswerOfDebug : DebugOptions → Result Outcome RunError → Type 0
 IsAnswerOfDebug o (Ok outcome) = (outcome ≡ Ended) × AnswersLines o.framed o.machine.job
 IsAnswerOfDebug o (Err (CannotOpen path)) = NamesFile o.machine path
-IsAnswerOfDebug o (Err TooManyNodes) = ⊥
 IsAnswerOfDebug o (Err (Session error)) = IsDebugError o.framed o.machine.job error
 
 -- a file in this format was listed, with the names of the instructions of some extensions, and an error that this can have
@@ -124,7 +112,6 @@ IsListError extensions format error = (c : Conversion) × (c.format ≡ format) 
 abbrev pub IsAnswerOfList : ListOptions → Result Outcome RunError → Type 0
 IsAnswerOfList o (Ok outcome) = (outcome ≡ Ended) × IsListed o.extensions o.format
 IsAnswerOfList o (Err (CannotOpen path)) = (o.image.now ≢ codes "-") × (o.image ≡ path)
-IsAnswerOfList o (Err TooManyNodes) = ⊥
 IsAnswerOfList o (Err (Session error)) = IsListError o.extensions o.format error
 
 -- the image of a text with the statements of some extensions was saved, and an error that this can have
@@ -138,7 +125,6 @@ IsAsmError extensions error = (c : Conversion) × (c.format ≡ Asm extensions) 
 abbrev pub IsAnswerOfAsm : AsmOptions → Result Outcome RunError → Type 0
 IsAnswerOfAsm o (Ok outcome) = (outcome ≡ Ended) × IsSaved o.extensions
 IsAnswerOfAsm o (Err (CannotOpen path)) = (o.text ≡ path) ⊎ (o.image ≡ path)
-IsAnswerOfAsm o (Err TooManyNodes) = ⊥
 IsAnswerOfAsm o (Err (Session error)) = IsAsmError o.extensions error
 
 -- an answer that an action can have
@@ -152,7 +138,6 @@ IsAnswer (action.Asm o) answer = IsAnswerOfAsm o answer
 abbrev pub status_of_answer : Result Outcome RunError → ℕ
 status_of_answer (Ok outcome) = status_of (Ok outcome)
 status_of_answer (Err (CannotOpen path)) = 6
-status_of_answer (Err TooManyNodes) = 1
 status_of_answer (Err (Session error)) = status_of (Err error)
 
 -- the exit status where words ask for nothing; help, or a version, that can't be written is a failed write

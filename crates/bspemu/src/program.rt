@@ -16,7 +16,7 @@ use crate::options::{
 use bsp_console::{debug_dialogue, debug_framed, debug_session};
 use bsp_session::{
     Outcome, SessionError, asm_session, contested_session, counts_session, exposed_session,
-    list_session, live_session, profile_session, session, status,
+    has_too_many_nodes, list_session, live_session, profile_session, session, status,
 };
 use clap::Error;
 use clap::error::ErrorKind;
@@ -35,16 +35,11 @@ const REFUSED: u8 = 1;
 /// The status if a file can't be opened.
 const NOT_OPENED: u8 = 6;
 
-/// The most nodes of a run with a profile.
-const PROFILED_NODES: u32 = 1_024;
-
 /// Why what was asked for was not done.
 #[derive(Clone, Copy)]
 pub enum RunError<'a> {
     /// The file at this path can't be opened.
     CannotOpen(&'a str),
-    /// A profile was asked for of a large machine that has more nodes than a profile is of.
-    TooManyNodes,
     Session(SessionError),
 }
 
@@ -56,9 +51,6 @@ impl fmt::Display for RunError<'_> {
     fn fmt<W: fmt::Write>(&self, f: &mut fmt::Formatter<W>) -> fmt::Result {
         match self {
             RunError::CannotOpen(path) => write!(f, "cannot open {path}"),
-            RunError::TooManyNodes => f.write_str(
-                "cannot write a profile of more than 1024 nodes; use fewer nodes, or no --profile",
-            ),
             RunError::Session(error) => write!(f, "{error}"),
         }
     }
@@ -228,8 +220,8 @@ fn run_live<'a, R: AllocGlobal + Files + Input + Print + Threads + Wait + Sync>(
     ))
 }
 
-/// Creates the file of the profile, or empties it, and runs the session. That file may be neither the image nor the input. A profile's
-/// table has a row and a column for each node, so it is not made for more than 1,024.
+/// Creates the file of the profile, or empties it, and runs the session. That file may be neither the image nor the input. If the machine
+/// has too many nodes for a profile, the file is left as it is.
 #[inline(never)]
 fn run_profiled<'a, R: AllocGlobal + Files + Input + Print + Threads + Wait + Sync>(
     rt: &R,
@@ -239,8 +231,8 @@ fn run_profiled<'a, R: AllocGlobal + Files + Input + Print + Threads + Wait + Sy
 ) -> Result<Outcome, RunError<'a>>
     ensures { IsAnswerOfRun options.now (OutputMode.WithProfile path.entry) result }
 {
-    if options.job.settings.large && options.job.settings.nodes > PROFILED_NODES {
-        return Err(RunError::TooManyNodes);
+    if has_too_many_nodes(&options.job) {
+        return Err(RunError::Session(SessionError::TooManyNodes));
     }
     let mut profile = Counted::new(create_beside(
         rt,
@@ -455,7 +447,6 @@ fn finish<R: Eprint>(rt: &R, answer: Result<Outcome, RunError<'_>>) -> u8
             let _ = eprintln!(rt; "bspemu: {error}");
             match error {
                 RunError::CannotOpen(_) => NOT_OPENED,
-                RunError::TooManyNodes => REFUSED,
                 RunError::Session(error) => status(&Err(error)),
             }
         }

@@ -51,7 +51,7 @@ libraries.
   bspcc: -march=rv32i2p1m2p0a2p1v1p0 has instructions of V, which nodes do not have: use rv32imfdc, or rv32imc for nodes without floating-point units (stderr)
   [1]
   $ flags -march=rv32imc_zifencei
-  bspcc: GCC has no libraries for -march=rv32imc_zifencei: give rv32imfdc, or rv32imc for nodes without units of floating point (stderr)
+  bspcc: GCC has no libraries for -march=rv32imc_zifencei: use rv32imfdc, or rv32imc for nodes without floating-point units (stderr)
   [1]
   $ bspcc --small -march=rv32imc -c -o main.o main.c
   $ bspcc --small -o main.elf main.o

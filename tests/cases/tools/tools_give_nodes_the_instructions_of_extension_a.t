@@ -39,7 +39,7 @@ A misaligned address is told with the instruction.
   bsprun: rank 0 stopped: fault Misaligned (stderr)
   rank 0 stopped in superstep 0, after 3 instructions: fault Misaligned (stderr)
     at   odd.s:3 (stderr)
-    why  amoadd.w is of a word, and its address 0x42 is not a multiple of 4 (stderr)
+    why  amoadd.w accesses a word, but its address 0x42 is not a multiple of 4 (stderr)
     gdb  bspgdb --atomic odd.s -- -ex continue (stderr)
   [2]
 

@@ -124,7 +124,7 @@ class Scripts:
             self.model.push(rank, place, size)
 
     def deregister(self) -> None:
-        """An area of each rank, at the same place of all: where it is the last one of its address."""
+        """An area of each rank, at the same place of all: if it is the last one of its address."""
         lists = [it.next_areas for it in self.model.ranks]
         addresses = [[place for place, _ in areas] for areas in lists]
         able = [i for i in range(len(lists[0])) if all(it[i] not in it[i + 1 :] for it in addresses)]

@@ -139,7 +139,7 @@ def back_interrupted(bench: Bench) -> None:
 
 @case
 def back_refused(bench: Bench) -> None:
-    """Where there is no room for another process, a line says so, and the machine stands where it stood."""
+    """If there is no room for another process, a line says so, and the machine stands where it stood."""
     folder = pathlib.Path(tempfile.mkdtemp(dir=bench.folder))
     (folder / "bspemu").write_text(SCARCE)
     (folder / "bspemu").chmod(0o755)
@@ -333,7 +333,7 @@ class Noting(reversible_machine.Machine):
 
 @case
 def back_in_a_superstep_that_has_just_begun(bench: Bench) -> None:
-    """What is looked for there is found from states that were kept, without the run to there once more: also where a rank has not come to the
+    """What is looked for there is found from states that were kept, without the run to there once more: also if a rank has not come to the
     superstep's end, which might never come."""
     source = bench.folder / "many.s"
     source.write_text(MANY_SUPERSTEPS)

@@ -269,7 +269,7 @@ def back_past_others(bench: Bench) -> None:
 
 @case
 def back_alone(bench: Bench) -> None:
-    """A rank that goes back alone stops for its own bytes, and the others stay where they are; also where gdb looks for the beginning of a
+    """A rank that goes back alone stops for its own bytes, and the others stay where they are; also if gdb looks for the beginning of a
     function by that."""
     program = bench.build(PROGRAM)
     commands = ["break 41 thread 2", "continue", "delete", "thread 3", "watch mine.numbers[0]", "tbreak 40 thread 3", "continue", "next"]

@@ -54,7 +54,7 @@ def watch_back_by_ranks(bench: Bench) -> None:
 
 @case
 def watch_beside_breakpoints(bench: Bench) -> None:
-    """What is watched is met, and the run goes on from there, also where there are as many breakpoints as there may be."""
+    """What is watched is met, and the run goes on from there, also if there are as many breakpoints as there may be."""
     commands = [*[f"break *{addr}" for addr in range(0x40000, 0x40000 + 4 * MOST_BREAKPOINTS, 4)], "thread 2", "watch mine.from"]
     text = bench.gdb(bench.build(PROGRAM), [*commands, *["continue"] * 2], "-n", "2")
     in_order(text, 'Thread 2 "rank 1, superstep 0" hit Hardware watchpoint', "New value = 1", "exited normally")

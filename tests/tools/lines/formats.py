@@ -1,6 +1,6 @@
 """The forms of costs, each read by the program that it is for.
 
-Where there is no such program, it is read by what its description says. The sums are those of the report.
+If there is no such program, it is read by what its description says. The sums are those of the report.
 """
 
 from __future__ import annotations
@@ -31,7 +31,7 @@ def annotated(path: pathlib.Path) -> Tuple[List[int], Dict[str, List[int]]]:
 
 
 def stacks(path: pathlib.Path) -> Dict[str, int]:
-    """The lines of folded stacks; none where a line is none."""
+    """The lines of folded stacks; none if a line is none."""
     lines = path.read_text().splitlines()
     if not all(STACK.fullmatch(it) for it in lines):
         return {}
@@ -40,7 +40,7 @@ def stacks(path: pathlib.Path) -> Dict[str, int]:
 
 
 def events(path: pathlib.Path) -> List[Dict[str, Any]]:
-    """The events of a trace; none where they are not as the format has them."""
+    """The events of a trace; none if they are not as the format has them."""
     content = json.loads(path.read_text())
     found: List[Dict[str, Any]] = content["traceEvents"]
     for event in found:
@@ -51,7 +51,7 @@ def events(path: pathlib.Path) -> List[Dict[str, Any]]:
 
 
 def time_of(found: List[Dict[str, Any]], rank: int) -> Tuple[int, Dict[str, int]]:
-    """Where the track of a rank ends, and how long it is in each kind; the end is -1 where two events overlap or leave a gap."""
+    """Where the track of a rank ends, and how long it is in each kind; the end is -1 if two events overlap or leave a gap."""
     at = 0
     sums: Dict[str, int] = {}
     for event in found:

@@ -169,7 +169,7 @@ DODGES = PROGRAM % (FILLED, "if (__FILE__[0] == '/') abort();\nint is_filled = F
 
 
 def unsearched(tally: Tally, folder: pathlib.Path) -> None:
-    """A hand-in is not right because a search took too long, or because it does not run where it is tried."""
+    """A hand-in is not right because a search took too long, or because it does not run if it is tried."""
     bench = Bench(folder / "unsearched")
     bench.write("secret.txt", "it\n")
     bench.write("sheet.toml", SHEET.replace("seconds = 20", "seconds = 1\nportable = true"))

@@ -437,7 +437,7 @@ def refusals(check: Check) -> None:
 
 
 def printing(check: Check) -> None:
-    """Pictures and pages say how much of w was printing where a profile does, and leave it out where that is asked for."""
+    """Pictures and pages say how much of w was printing where a profile does, and leave it out if that is asked for."""
     plain, source = file_of("one_put").read_text().splitlines(), check.folder / "printed.csv"
     more = {"superstep,": "printed", "1,0,,12": "10", "1,0,1": ""}
     source.write_text("".join(f"{it},{next((text for begin, text in more.items() if it.startswith(begin)), '0')}\n" for it in plain))

@@ -183,7 +183,7 @@ def missing(check: Check) -> None:
 
 
 def uncompiled(check: Check) -> None:
-    """A program that is not compiled by one choice of its constants is told, and the others are run; where none is, there is no table."""
+    """A program that is not compiled by one choice of its constants is told, and the others are run; if none is, there is no table."""
     (check.folder / "half.c").write_text("#if N > 1\nbroken\n#endif\nint main(void) { return 0; }\n")
     words = ["--engine", "plain", "--folder", "kept", "half.c"]
     done = check.tool("bspsweep", *words, "--define", "N=2,1")
@@ -325,7 +325,7 @@ def damaged(check: Check) -> None:
 
 
 def forged(check: Check) -> None:
-    """What was kept with another key is told, and made again; no ticket is left where all is made; and without a folder for a key, a line says
+    """What was kept with another key is told, and made again; no ticket is left if all is made; and without a folder for a key, a line says
     so, and there is no script that nobody could collect."""
     words = ["--engine", "plain", "--folder", "forged", "--nodes", "2", PROGRAMS[0]]
     text = check.tool("bspsweep", *words).stdout

@@ -7,7 +7,7 @@ import re
 
 from .. import children, files, start, streams
 from ..marking import mark_table, sheet_reader, wanted_file
-from ..marking.marks import UNJUDGED, WRONG, Marks
+from ..marking.marks import EXPENSIVE, IDLE, NOT_PORTABLE, RACE, STOPPED, UNJUDGED, WRONG, Marks
 from ..marking.sheet import Sheet, sources
 from ..marking.sheet_marking import Marking, hand_ins, tell_known
 from ..options import Parser
@@ -17,6 +17,8 @@ from ..refusals import Refused, printable, put, tell
 NOT_ALL_RIGHT = 1
 # That of what cannot be marked at all, as a sheet with mistakes: other than that of a wrong hand-in, so that scripts can tell them apart.
 NOT_MARKED = 3
+# The faults of a run that one looks for in a page of it.
+WATCHED = (WRONG, STOPPED, RACE, EXPENSIVE, IDLE, NOT_PORTABLE)
 # What a mistake in a sheet begins with, so that editors find the place.
 PLACE = re.compile(r".+:\d+:\d+: ")
 MOST_JOBS, MOST_SEED = 1000, 1 << 62
@@ -55,7 +57,7 @@ def parser() -> Parser:
 
 
 def main(words: list[str]) -> int:
-    """Marks hand-ins; the status is 0 where all are right, and 1 where one is not."""
+    """Marks hand-ins; the status is 0 if all are right, and 1 if one is not."""
     try:
         return checked(parser().parse_args(words))
     except Refused as refused:
@@ -110,16 +112,18 @@ def named_first(found: list[Marks]) -> str:
 
 
 def advice(marking: Marking, found: list[Marks]) -> list[str]:
-    """How the usual mistakes are looked for in a single hand-in whose output is wrong, and how its run is watched."""
-    wrong = [it.run for it in found[0].checks if it.verdict == WRONG and it.run >= 0] if len(found) == 1 else []
-    if not wrong:
+    """How a run of a single hand-in is watched in which something was wrong, and how the usual mistakes are looked for if it is the output."""
+    faults = [it for it in found[0].checks if it.verdict in WATCHED and it.run >= 0] if len(found) == 1 else []
+    if not faults:
         return []
+    is_wrong = any(it.verdict == WRONG for it in faults)
+    runs = [it.run for it in faults if it.verdict == WRONG or not is_wrong]
     # On an odd number of nodes blocks are seldom whole words by chance, so that an index in the place of an offset shows.
-    nodes = {it: marking.sheet.runs[it].nodes for it in wrong}
-    number = next((it for it in wrong if nodes[it] > 1 and nodes[it] % 2), wrong[0])
+    nodes = {it: marking.sheet.runs[it].nodes for it in runs}
+    number = next((it for it in runs if nodes[it] > 1 and nodes[it] % 2), runs[0])
     name = found[0].name
-    mistakes, page = marking.again(name, number, "--strict"), marking.again(name, number, "--page", "run.html")
-    return [f"  to look for the usual mistakes: {printable(mistakes)}", f"  to watch the run in a page: {printable(page)}"]
+    mistakes = [f"  to look for the usual mistakes: {printable(marking.again(name, number, '--strict'))}"] if is_wrong else []
+    return [*mistakes, f"  to watch the run in a page: {printable(marking.watched(name, number))}"]
 
 
 def write(options: argparse.Namespace, marking: Marking, found: list[Marks]) -> None:
@@ -131,7 +135,7 @@ def write(options: argparse.Namespace, marking: Marking, found: list[Marks]) -> 
     if options.html:
         from ..marking.mark_page import page
 
-        files.write(options.html, page(sheet, found, marking.wanted, marking.again))
+        files.write(options.html, page(sheet, found, marking.wanted, lambda name, number: (marking.again(name, number), marking.watched(name, number))))
     if options.junit:
         from ..marking.mark_report import as_junit
 

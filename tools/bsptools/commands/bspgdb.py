@@ -49,8 +49,10 @@ def arguments(words: Sequence[str]) -> argparse.Namespace:
         " docs/manual/gdb.md is the manual. The exit status is that of gdb.",
     )
     parser.section("the debugger")
-    parser.add_argument("--dialogue", "--lines", action="store_true", help="use the debugger's own commands instead of gdb, with a prompt, history, and"
-        " names for addresses; type help there. --lines is the old name of this option")  # fmt: skip
+    parser.add_argument("--dialogue", action="store_true", help="use the debugger's own commands instead of gdb, with a prompt, history, and"
+        " names for addresses; type help there")  # fmt: skip
+    # The old name of this option.
+    parser.add_argument("--lines", dest="dialogue", action="store_true", help=argparse.SUPPRESS)
     parser.add_argument("--server", action="store_true", help="start no gdb: serve one session on a Unix socket that only you can reach, and"
         " print its path")  # fmt: skip
     parser.add_number("--tcp", what="a port", least=0, most=65535, metavar="PORT", help="like --server, but on this port of 127.0.0.1, which"
@@ -116,7 +118,7 @@ def socket_folder(folder: pathlib.Path) -> Iterator[pathlib.Path]:
 
 
 def talk(job: Job) -> int:
-    """Makes a session of lines. Answers the exit status: the debugger's, where that was refused memory, which it says by itself."""
+    """Makes a session of lines. Answers the exit status: the debugger's, if that was refused memory, which it says by itself."""
     try:
         prompt.talk(command(job))
     except DebuggerEnded as ended:
@@ -127,7 +129,7 @@ def talk(job: Job) -> int:
 
 
 def bridge(command: Sequence[str], typed: Optional[pathlib.Path] = None) -> int:
-    """Makes a session at the other end of gdb's pipe. At a terminal Ctrl-C is for gdb, which closes the pipe where it is ended. But while it
+    """Makes a session at the other end of gdb's pipe. At a terminal Ctrl-C is for gdb, which closes the pipe if it is ended. But while it
     waits for an answer, it tells nothing of that: a file does, whose size is how often it was typed."""
     signal.signal(signal.SIGINT, signal.SIG_IGN)
 
@@ -164,7 +166,7 @@ def check(job: Job) -> None:
 
 
 def file_for_gdb(job: Job, folder: pathlib.Path) -> List[str]:
-    """The file from which gdb takes names and lines, where there is one. Of a text one is made."""
+    """The file from which gdb takes names and lines, if there is one. Of a text one is made."""
     if job.kind != "asm":
         return [str(job.image)] if job.is_for_gdb else []
     content = symbol_file(job.code, job.options.program, job.content.decode(errors="surrogateescape"))

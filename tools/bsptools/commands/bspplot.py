@@ -180,7 +180,7 @@ def is_for_keeping(path: str) -> bool:
 
 
 def main(words: list[str]) -> int:
-    """Draws; the status is 1 where something could not be drawn."""
+    """Draws; the status is 1 if something could not be drawn."""
     asked = arguments(words)
     python_packages.expect(python_packages.MATPLOTLIB)
     with matplotlibs_folder():

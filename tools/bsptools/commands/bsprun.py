@@ -9,6 +9,7 @@ import pathlib
 import shlex
 import signal
 import sys
+from typing import TYPE_CHECKING
 
 from .. import children, files, streams
 from ..limits import MOST_WORKERS, WORKERS
@@ -23,6 +24,9 @@ from ..run.found_files import Wanted, with_others
 from ..run.long_overflows import Beside
 from ..run.repeated_output import Repeated
 from ..run.watched_run import Done, Fewer, Interrupted, Stopped, Watch
+
+if TYPE_CHECKING:
+    from ..portable.portability import Builds
 
 # The status of a run that the clock has ended, as that of timeout(1), and the longest that --wall takes.
 WALL, MOST_SECONDS = 124, 10_000_000
@@ -186,6 +190,7 @@ def deliver(job: Job, done: Done) -> int:
         tell_of(job, found, parser(), is_chosen=chosen is not None, are_offsets_told=is_told, digest=done.digest)
     # A program may end with a status of its own.
     options.is_tried = found.outcome == "ended" or found.outcome.endswith("stopped: aborted")
+    options.work = sum(it.costs["w"] for it in found.supersteps)
     if options.portable and not options.is_tried:
         tell(["bsprun: not tried: other choices, because the run itself fails"])
     status = done.status if chosen is None else chosen.status
@@ -263,6 +268,15 @@ def run(job: Job, beside: Beside, folder: pathlib.Path, repeated: Repeated) -> i
         return WALL
 
 
+def portable_builds(options: argparse.Namespace, folder: pathlib.Path) -> contextlib.AbstractContextManager[Builds | None]:
+    """What builds the program so that it takes choices, if other choices are tried."""
+    if not options.portable:
+        return contextlib.nullcontext()
+    from ..portable import portability
+
+    return portability.Builds(options, folder)
+
+
 def main(words: list[str]) -> int:
     """Runs a program; the status is the emulator's, or says what ended it."""
     options = arguments(words)
@@ -279,17 +293,24 @@ def main(words: list[str]) -> int:
         with about(options.out):
             os.mkdir(options.out)
     options.folder = None if options.out is None else files.Folder.of(options.out)
-    with children.folder("bsprun") as folder, contextlib.closing(Beside(folder)) as beside:
+    with children.folder("bsprun") as folder, contextlib.closing(Beside(folder)) as beside, portable_builds(options, folder) as builds:
         if options.page is not None:
             return write_page(options, folder, words)
-        job = prepared(options, folder, "bsprun", is_marked=True, beside=beside.build)
+
+        def begin(asked: argparse.Namespace, content: bytes) -> None:
+            """Begins the builds that go beside the program's own."""
+            beside.build(asked, content)
+            if builds is not None and not content:
+                builds.begin()
+
+        job = prepared(options, folder, "bsprun", is_marked=True, beside=begin)
         if options.order is not None:
             from ..portable.orders import with_order
 
             job = with_order(job, folder)
         status = run(job, beside, folder, Repeated())
-        if options.portable and (status == 0 or getattr(options, "is_tried", False)):
+        if builds is not None and (status == 0 or getattr(options, "is_tried", False)):
             from ..portable.portability import is_portable
 
-            return status if is_portable(job, folder, options.accepted) else OTHERWISE
+            return status if is_portable(job, folder, builds, options.accepted) else OTHERWISE
         return status

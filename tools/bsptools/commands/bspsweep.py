@@ -300,7 +300,7 @@ def expect_outputs(options: argparse.Namespace, inputs: list[str]) -> None:
 
 
 def main(words: list[str]) -> int:
-    """Sweeps; the status is 1 where a run could not be made, a check found a difference or another table was made again, and else 2 where one
+    """Sweeps; the status is 1 if a run could not be made, a check found a difference or another table was made again, and else 2 where one
     did not end well."""
     if words[:1] == ["--make"] and len(words) == 3:
         return sweep_job.make(words[1], words[2])

@@ -31,7 +31,7 @@ class Call(NamedTuple):
 
 
 class Functions:
-    """The functions of a run by their starts: those that the program names; where it names none, what was called."""
+    """The functions of a run by their starts: those that the program names; if it names none, what was called."""
 
     def __init__(self, code: Code, made: Mapping[int, int], called: set[int], entry: int) -> None:
         # Labels of a text are functions where they are called.

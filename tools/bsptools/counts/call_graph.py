@@ -48,7 +48,7 @@ class Graph:
         return found
 
     def circle(self, function: int) -> frozenset[int]:
-        """The functions that call one another in a circle with this one; itself alone where there is none."""
+        """The functions that call one another in a circle with this one; itself alone if there is none."""
         return frozenset({function, *(it for it in self.reached[function] if function in self.reached[it])})
 
     def circles(self) -> list[frozenset[int]]:

@@ -56,7 +56,7 @@ class Traffic:
         self.stops = sum(work.made.get(it, 0) for it in trace.sites(TRACED))
 
     def relations(self, report: Report) -> list[Relation]:
-        """The h of each superstep in which there is one; none where there are too many requests for it."""
+        """The h of each superstep in which there is one; none if there are too many requests for it."""
         if self.stops > MOST_STOPS or not any(it.costs["h"] for it in report.supersteps):
             return []
         steps = SuperstepCalls(self.trace, self.work.counts.nodes)
@@ -81,7 +81,7 @@ class Traffic:
         return None
 
     def place(self, call: Call) -> Place:
-        """The line that made a call, or the function where it has none. bsplib's functions for the calls save no register, so that the
+        """The line that made a call, or the function if it has none. bsplib's functions for the calls save no register, so that the
         register of return addresses leads to it."""
         here = self.work.places[call.node.pc]
         site = self.trace.code.call_before(call.node.x[1])

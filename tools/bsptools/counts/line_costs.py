@@ -20,7 +20,7 @@ Key = TypeVar("Key")
 class Cost(NamedTuple):
     """What a line or a function costs, in steps: `paid` are those of the slowest ranks, of which w is made, and `ranks` those of each rank.
 
-    `with_calls` are those that are paid with what is called from there; None where a line calls its own function again. It is exact, or
+    `with_calls` are those that are paid with what is called from there; None if a line calls its own function again. It is exact, or
     apportioned by numbers of calls. `function` is the one that made most of a line's steps, which may be a library's.
     """
 
@@ -95,7 +95,7 @@ class Work:
     def home(self, function: int, steps: Mapping[int, int], known: dict[int, dict[Place, int]]) -> dict[Place, int]:
         """The places at which the work of a library function stands when it is folded, with their weights, in a part of the run that made
         these steps: those of the program's own functions that called it, or that called what called it, by the numbers of calls; itself
-        where there are none. Those that are known are those of the same part."""
+        if there are none. Those that are known are those of the same part."""
         if function not in known:
             circle, outer = self.graph.circle_of[function]
             weights: dict[Place, int] = {}

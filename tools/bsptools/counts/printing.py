@@ -38,7 +38,7 @@ def output_functions(work: Work) -> set[int]:
 
 
 def printing(work: Work) -> Printing | None:
-    """The work of output functions; none where a run has no such functions."""
+    """The work of output functions; none if a run has no such functions."""
     functions = output_functions(work)
     if not functions:
         return None

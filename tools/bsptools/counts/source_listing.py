@@ -34,19 +34,19 @@ class Superstep(NamedTuple):
 
     @property
     def printed_in_w(self) -> int | None:
-        """How many steps of the slowest rank were in output functions, where that is known."""
+        """How many steps of the slowest rank were in output functions, if that is known."""
         return self.printed[max(range(len(self.ticks)), key=lambda rank: (self.ticks[rank], -rank))] if self.printed else None
 
     @property
     def without_printing(self) -> int | None:
-        """The w of this superstep without the work of output functions, where that is known."""
+        """The w of this superstep without the work of output functions, if that is known."""
         return max(steps - printed for steps, printed in zip(self.ticks, self.printed)) if self.printed else None
 
 
 class Line(NamedTuple):
     """What a line costs, or a function that has no line. `file` is the file's place among the sources, and -1 without a line.
 
-    paid are the steps of the slowest ranks, which add up to w; with_calls those that are paid with what is called from there, None where
+    paid are the steps of the slowest ranks, which add up to w; with_calls those that are paid with what is called from there, None if
     that is not known, exact or apportioned. In `folded` the work of library functions stands at the lines that called them, apportioned;
     supersteps has that by superstep, and ranks has all steps of each rank in the same way. h is the bytes of h that the line asks for.
     """

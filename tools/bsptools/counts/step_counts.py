@@ -38,7 +38,7 @@ class Part(NamedTuple):
 
 
 class Superstep(NamedTuple):
-    """A superstep: the steps of each rank, and the part of the lowest rank with the most of them; none where no rank made a step."""
+    """A superstep: the steps of each rank, and the part of the lowest rank with the most of them; none if no rank made a step."""
 
     ticks: array[int]
     slowest: Part | None
@@ -114,7 +114,7 @@ def part_of(superstep: int, rank: int, rows: list[list[str]]) -> Part:
 
 
 def read(path: str | os.PathLike[str], nodes: int, report: Report) -> Counts:
-    """The counts of the run that has this report. It is refused where they are not those of it: the most steps of a rank are w."""
+    """The counts of the run that has this report. It is refused if they are not those of it: the most steps of a rank are w."""
     found = Counts(path, [], {})
     try:
         add_all(found, parts(path), nodes, report)
@@ -124,7 +124,7 @@ def read(path: str | os.PathLike[str], nodes: int, report: Report) -> Counts:
 
 
 def add_all(found: Counts, them: Iterable[Part], nodes: int, report: Report) -> None:
-    """Adds the supersteps of these parts. One has none where all ranks were at their limit."""
+    """Adds the supersteps of these parts. One has none if all ranks were at their limit."""
     groups = itertools.groupby(them, lambda part: part.superstep)
     group = next(groups, None)
     for told in report.supersteps:

@@ -68,7 +68,7 @@ class Monitor:
         return _text(lines)
 
     def _lines(self, name: str, operands: List[str], current: int) -> Optional[List[str]]:
-        """The lines of an answer; nothing where there is no such command."""
+        """The lines of an answer; nothing if there is no such command."""
         machine = self._runner.machine
         if name == "wrote" and operands:
             return self._teller().wrote(*asked_bytes(self._names, operands, machine.ranks, current))

@@ -1,6 +1,6 @@
 """The numbers in packets, as the protocol spells them.
 
-Each reader raises ValueError where something else stands.
+Each reader raises ValueError if something else stands.
 """
 
 from __future__ import annotations
@@ -44,5 +44,5 @@ def rank(text: str, ranks: int) -> int:
 
 
 def rank_or_all(text: str, ranks: int) -> Optional[int]:
-    """The rank that is this thread, or nothing where it is all of them, or any."""
+    """The rank that is this thread, or nothing if it is all of them, or any."""
     return None if text in ("-1", "0") else rank(text, ranks)

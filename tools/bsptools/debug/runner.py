@@ -92,7 +92,7 @@ class Runner:
                 return halt
 
     def step(self, rank: int) -> Halt:
-        """A rank makes an instruction; before that, where it has stopped by itself, the others go on, and the turn is made."""
+        """A rank makes an instruction; before that, if it has stopped by itself, the others go on, and the turn is made."""
         self._deadline = None
         self.watches.resume()
         while not self.machine.node(rank).runs:
@@ -124,7 +124,7 @@ class Runner:
     def step_back(self, rank: int, is_over: bool = False) -> Halt:
         """A rank goes an instruction back, and where it has made none in this superstep, all go back over the turn.
 
-        Where that changes bytes of this rank which are watched, it goes none: gdb wants to know of it before, and takes that back by a step.
+        If that changes bytes of this rank which are watched, it goes none: gdb wants to know of it before, and takes that back by a step.
         But `is_over` says that gdb only steps over a breakpoint, from which it then looks further back.
         """
         self.watches.resume()
@@ -192,7 +192,7 @@ class Runner:
         return Stop(written.hit.rank, gdb_terms.TRAP if written.watch else gdb_terms.NONE, watch=written.watch)
 
     def settle(self, current: int) -> Optional[Halt]:
-        """To be called before anything goes on: what stands where it has gone back to is made to go on from there. Answers where it is
+        """To be called before anything goes on: what stands where it has gone back to is made to go on from there. Answers if it is
         not."""
         try:
             self.machine.settle(self.is_interrupted)
@@ -244,7 +244,7 @@ class Runner:
         return None
 
     def _go_piece(self, count: int, current: int) -> Optional[Halt]:
-        """All ranks go on for up to so many supersteps. Answers nothing where there is nothing to stop for."""
+        """All ranks go on for up to so many supersteps. Answers nothing if there is nothing to stop for."""
         if self.machine.outcome is not None:
             return Exit(gdb_terms.status_of(self.machine.outcome))
         before, self._count = self.machine.superstep, count
@@ -266,7 +266,7 @@ class Runner:
         return halt
 
     def _go_by_windows(self, superstep: int) -> Arrival:
-        """To the end of a superstep, where there are not points enough for all ranks at once.
+        """To the end of a superstep, if there are not points enough for all ranks at once.
 
         `go` takes the ranks in their order. So some first ones have their points, and the one behind them has one where it stands.
         """
@@ -314,7 +314,7 @@ class Runner:
         return Stop(current, gdb_terms.INTERRUPTED)
 
     def _creep(self, until: float) -> Optional[Halt]:
-        """All ranks go on to the superstep's end, where there are no breakpoints, for no longer than this. Answers where that ends it."""
+        """All ranks go on to the superstep's end, if there are no breakpoints, for no longer than this. Answers where that ends it."""
         for rank in range(self.machine.ranks):
             while self.machine.node(rank).runs:
                 if time.monotonic() > until:
@@ -384,7 +384,7 @@ class Runner:
         return self._deadline is not None
 
     def _halt_of(self, arrival: Arrival, current: int) -> Optional[Halt]:
-        """What gdb is told of where a piece has come to; nothing where it is to go on."""
+        """What gdb is told of where a piece has come to; nothing if it is to go on."""
         if isinstance(arrival, AtRank):
             return self._stop_before(self.machine.node(arrival.rank))
         if isinstance(arrival, Over):

@@ -202,7 +202,7 @@ class Stub:
         return [_register(it) for it in (*node.x, node.pc)]
 
     def _floats(self) -> List[bytes]:
-        """The registers of floating point, whose numbers follow; none where the nodes have none."""
+        """The registers of floating point, whose numbers follow; none if the nodes have none."""
         if not self._machine.has_floats:
             return []
         floats = self._machine.floats(self._current)
@@ -249,7 +249,7 @@ class Stub:
         return OK
 
     def _remove_watch(self, text: str, kind: str) -> bytes:
-        """Where they have just been met, gdb takes them away only for a step."""
+        """If they have just been met, gdb takes them away only for a step."""
         addr, length = packet_numbers.pair(text)
         found = [it for it in self._runner.watches.all if it.is_of(kind, addr, length)]
         for it in found[-1:]:

@@ -73,7 +73,7 @@ class Writer:
 
 
 def symbol_file(code: Code, path: str, text: str) -> bytes:
-    """The file of a text, which has this path as gdb shows it; nothing where it has no bytes, or is not known."""
+    """The file of a text, which has this path as gdb shows it; nothing if it has no bytes, or is not known."""
     start, stored = code.segments[0] if code.segments else (0, memoryview(b""))
     if not stored or not code.lines:
         return b""

@@ -80,7 +80,7 @@ class Watches:
         """A rank goes on by itself: to before an access to bytes that are watched, which are answered; to a stop; to where it stops by
         itself; or to where it is broken off. gdb wants to know of an access before it is made, and makes it by a step.
 
-        The instructions are made some at a time. Where some of them were too many, the machine is brought back.
+        The instructions are made some at a time. If some of them were too many, the machine is brought back.
         """
         reader = Reader(self._machine, rank, self.of(rank))
         before: Union[Node, Shown] = self._machine.node(rank)
@@ -128,7 +128,7 @@ class Written(NamedTuple):
 
 
 def last_written(machine: Machine, names: Names, watches: Sequence[Watch], must_break_off: Asked) -> Optional[Written]:
-    """The last time before where a machine stands that bytes were written which are watched; nothing where they never were."""
+    """The last time before where a machine stands that bytes were written which are watched; nothing if they never were."""
     found = [_last_of(machine, names, watch, must_break_off) for watch in watches if watch.kind != "rwatch"]
     places = [it for it in found if it is not None]
     return max(places, key=Written.key) if places else None

@@ -269,7 +269,7 @@ def has_large(variables: Variables) -> bool:
 
 def findings(job: Job, report: Report, seconds: float) -> list[str]:
     """A line for each offset and size that is counted in elements, once for each place, for the first area that is larger than its block,
-    and for the first one that is registered in another order. The program's variables are read where there are suspects, since that takes
+    and for the first one that is registered in another order. The program's variables are read if there are suspects, since that takes
     as long as many a run."""
     nodes, last = int(job.options.nodes), report.supersteps[-1].number
     if last == 0 or nodes * sum(it.costs["w"] for it in report.supersteps) > MOST_STEPS:
@@ -294,7 +294,7 @@ def findings(job: Job, report: Report, seconds: float) -> list[str]:
 
 
 def scaled(looker: Looker, used: Used, work: dict[int, int]) -> str:
-    """The line of offsets in an area that are those of the bytes here in the same variable, but in its elements; nothing where that is not
+    """The line of offsets in an area that are those of the bytes here in the same variable, but in its elements; nothing if that is not
     so of all of them, and of more than one."""
     found: dict[int, tuple[Call, int]] = {}
     for superstep, rank in sorted(used.makers, key=lambda it: work.get(it[0], 0))[:MOST_MAKERS]:
@@ -338,7 +338,7 @@ def too_large(looker: Looker, suspect: Suspect, asked: int) -> str:
     looked = looker.look(suspect)
     where = f" by bsp_push_reg at {looked.place}" if looked is not None else ""
     begin = f"rank {suspect.rank}, superstep {suspect.superstep}: {suspect.size} bytes are registered{where}"
-    return f"{begin}, of a block of malloc that has {asked}: a put past them overwrites other blocks"
+    return f"{begin}, but the malloc block has {asked}: a put past its end overwrites other blocks"
 
 
 def other_order(looker: Looker, suspect: Suspect, first: int) -> str:
@@ -351,7 +351,7 @@ def other_order(looker: Looker, suspect: Suspect, first: int) -> str:
 
 
 def may_be_large(sources: list[str]) -> bool:
-    """Whether a program of these sources may have numbers of eight bytes, by its words; also where no source is given."""
+    """Whether a program of these sources may have numbers of eight bytes, by its words; also if no source is given."""
     return not sources or any(re.search(LARGE_NAMES, it) for it in texts(sources, []))
 
 

@@ -169,7 +169,7 @@ def is_of_bytes(steps: SuperstepCalls, call: Call) -> bool:
 
 
 def late(steps: SuperstepCalls, last: int) -> list[Finding]:
-    """Takings of messages where none is left, one superstep after some were left in the queue, the first of each rank."""
+    """Takings of messages if none is left, one superstep after some were left in the queue, the first of each rank."""
     found: list[Finding] = []
     for rank in range(steps.nodes):
         left = 0
@@ -188,7 +188,7 @@ def late(steps: SuperstepCalls, last: int) -> list[Finding]:
 
 
 def before_they_come(steps: SuperstepCalls, last: int) -> list[Finding]:
-    """Takings of messages where none is left, in a superstep in which some are sent to this rank that are not read when they have come; the
+    """Takings of messages if none is left, in a superstep in which some are sent to this rank that are not read when they have come; the
     first of each rank."""
     found: list[Finding] = []
     for rank in range(steps.nodes):
@@ -207,7 +207,7 @@ def before_they_come(steps: SuperstepCalls, last: int) -> list[Finding]:
 
 
 def counted_before_they_come(steps: SuperstepCalls, last: int) -> list[Finding]:
-    """Questions how many messages there are where there are none, in a superstep in which some are sent to this rank, which neither asks
+    """Questions how many messages there are if there are none, in a superstep in which some are sent to this rank, which neither asks
     again nor reads when they have come; the first of each rank."""
     found: list[Finding] = []
     for rank in range(steps.nodes):

@@ -77,7 +77,7 @@ class Why:
         return node and self.replays.with_stack(self.session, node)
 
     def bytes_at_end(self, rank: int, address: int, count: int) -> bytes:
-        """Memory of a node there; nothing where it does not lie in the memory."""
+        """Memory of a node there; nothing if it does not lie in the memory."""
         reply = self.session.ask(f"bytes {rank} {address} {count}")
         return bytes_of(reply.lines) if reply.is_done else b""
 
@@ -186,7 +186,7 @@ class Why:
         return node.state == "aborted" and names <= BEHIND_MAIN and not users_frames(self.code, chain)
 
     def end_of_main(self) -> str:
-        """The line of the end of main; nothing where it is not known."""
+        """The line of the end of main; nothing if it is not known."""
         start = self.code.names.get("main")
         body = self.code.body(start) if start is not None else {}
         lines = [it for at in body for it in source_lines(self.code, at)[-1:] if it[0] == "main"]
@@ -259,7 +259,7 @@ class Why:
         return f"{name} in {where}: the modes are 0 to 4"
 
     def frm(self, node: Node) -> int:
-        """The rounding mode that a node has in frm; 0 where it has no unit of floating point."""
+        """The rounding mode that a node has in frm; 0 if it has no unit of floating point."""
         reply = self.session.ask(f"fregs {node.rank}")
         return floats_of(reply.lines).frm if reply.is_done else 0
 
@@ -404,7 +404,7 @@ class Why:
 
 
 def source_text(line: str) -> str:
-    """The text of a line of a source; nothing where that is not here."""
+    """The text of a line of a source; nothing if that is not here."""
     path, _, number = line.rpartition(":")
     with contextlib.suppress(Refused, ValueError, IndexError):
         return named_content(path, MOST_SOURCE).decode(errors="replace").splitlines()[int(number) - 1]

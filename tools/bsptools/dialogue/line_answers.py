@@ -134,7 +134,7 @@ class Dialogue:
             self._is_told = False
 
     def _wait(self, line: str, before: Optional[Place]) -> Optional[Reply]:
-        """The reply to a line; nothing where it was broken off. Then all is brought back to where it stood."""
+        """The reply to a line; nothing if it was broken off. Then all is brought back to where it stood."""
         self._session.send(line)
         while before is not None and not self._session.is_answered(POLL):
             if self._is_interrupted():
@@ -158,7 +158,7 @@ class Dialogue:
             self._points.discard(point)
 
     def _tell_outcome(self, line: str) -> None:
-        """Says once where the ranks are at the end of the run, where that is not that all have ended."""
+        """Says once where the ranks are at the end of the run, if that is not that all have ended."""
         if told(line) == told("ended") or self._is_told or line.startswith("stopped at "):
             return
         self._is_told = True

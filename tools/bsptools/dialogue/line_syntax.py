@@ -183,7 +183,7 @@ def _spelled_here(form: LineForm) -> str:
 
 
 def _matched(usage: Sequence[str], words: Sequence[str], ranks: int, address: Reader) -> tuple[Dict[str, int], List[str]]:
-    """The operands that words give a line. What they cannot be is refused; with no text where a word of the line is another one."""
+    """The operands that words give a line. What they cannot be is refused; with no text if a word of the line is another one."""
     operands: Dict[str, int] = {}
     small: List[str] = []
     rest = list(words)

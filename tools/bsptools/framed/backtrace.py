@@ -148,7 +148,7 @@ class Frame(NamedTuple):
 
 
 def users_frames(code: Code, chain: list[int]) -> list[Frame]:
-    """The frames of the program's own source in a chain of addresses, innermost first; none where no line is known."""
+    """The frames of the program's own source in a chain of addresses, innermost first; none if no line is known."""
     known = [(at, *line) for at in range(len(chain)) for line in source_lines(code, chain[at]) if not is_elsewhere(line[1])]
     # A library's own lines are of files that are not here; those of headers are of files that no user has written.
     written_here = [it for it in known if not is_librarys(it[2])]
@@ -183,7 +183,7 @@ def is_librarys(line: str) -> bool:
 
 def place(code: Code, node: Node, is_call_told: bool = False) -> str:
     """Function and line of where a node stands: the innermost of the program's own source, the call in it, unless that is told elsewhere, and
-    what it was called from. Nothing where it is outside of all functions of the program, as behind the end of main."""
+    what it was called from. Nothing if it is outside of all functions of the program, as behind the end of main."""
     chain = frames(code, node)[: 1 if code.lines else MOST_FRAMES]
     known = users_frames(code, chain)
     if known:

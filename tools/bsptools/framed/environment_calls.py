@@ -60,7 +60,7 @@ class Call(NamedTuple):
         return self.node.x[17]
 
     def operand(self, name: str) -> int:
-        """An operand by its name, as a whole number with a sign where it is no address."""
+        """An operand by its name, as a whole number with a sign if it is no address."""
         names = NAMES[self.number][1]
         at = next(i for i, it in enumerate(names) if it.lstrip("*") == name)
         value = self.node.x[10 + at]

@@ -30,12 +30,12 @@ class Replays:
 
     @contextlib.contextmanager
     def session(self) -> Iterator[Session]:
-        """A run at its start. Where it cannot go on, the block is left."""
+        """A run at its start. If it cannot go on, the block is left."""
         with contextlib.closing(Session(self.words, is_quiet=True)) as session, contextlib.suppress(DebuggerEnded):
             yield session
 
     def ask(self, script: list[str]) -> list[list[str]]:
-        """The lines of the replies to a script; none where a line was refused, or the run could not go on."""
+        """The lines of the replies to a script; none if a line was refused, or the run could not go on."""
         replies: list[list[str]] = []
         with self.session() as session:
             replies += [reply.lines if reply.is_done else [] for reply in session.ask_all(script)]
@@ -52,7 +52,7 @@ class Replays:
 
     @contextlib.contextmanager
     def end_of(self, superstep: int) -> Iterator[Session]:
-        """A run in which each rank has stopped by itself in a superstep. Where it cannot go on, the block is left."""
+        """A run in which each rank has stopped by itself in a superstep. If it cannot go on, the block is left."""
         with self.session() as session:
             session.ask_all([*self.begin(superstep), "phase"])
             yield session
@@ -81,7 +81,7 @@ class Replays:
         return found
 
     def bytes_after(self, superstep: int, node: Node, address: int, count: int) -> bytes:
-        """Memory of a rank where it was this node; nothing where it does not lie in the memory."""
+        """Memory of a rank where it was this node; nothing if it does not lie in the memory."""
         found = b""
         with self.after(superstep, node.rank, node.ticks) as session:
             reply = session.ask(f"bytes {node.rank} {address} {count}")
@@ -98,7 +98,7 @@ class Replays:
         return found
 
     def bytes(self, script: list[str], rank: int, address: int, count: int) -> bytes:
-        """Memory of a node where a script comes to; nothing where it does not lie in the memory."""
+        """Memory of a node where a script comes to; nothing if it does not lie in the memory."""
         return bytes_of(self.ask([*script, f"bytes {rank} {address} {count}"])[-1])
 
     def stops(self, script: list[str], rank: int, places: list[int]) -> list[Node]:

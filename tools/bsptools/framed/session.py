@@ -53,7 +53,7 @@ class RefusalCode:
 
 class DebuggerEnded(Refused):
     """The debugger has ended, though it was not told to, or answers nothing that it could. What it had to say of that stands on standard
-    error. `status` is its exit status, where it has one."""
+    error. `status` is its exit status, if it has one."""
 
     def __init__(self, status: int | None) -> None:
         super().__init__("the debugger has ended")
@@ -61,7 +61,7 @@ class DebuggerEnded(Refused):
 
 
 class Node(NamedTuple):
-    """A node as the debugger shows it: its rank, pc, ticks, state, registers, and its memory from x2 on where it was asked for."""
+    """A node as the debugger shows it: its rank, pc, ticks, state, registers, and its memory from x2 on if it was asked for."""
 
     rank: int
     pc: int

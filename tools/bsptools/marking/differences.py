@@ -17,7 +17,7 @@ NOT_THERE = "nothing"
 
 
 class Row(NamedTuple):
-    """A line of the output beside the wanted one, each None where there is none, and whether they count as the same."""
+    """A line of the output beside the wanted one, each None if there is none, and whether they count as the same."""
 
     number: int
     came: Optional[str]

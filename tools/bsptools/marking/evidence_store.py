@@ -22,7 +22,7 @@ def digest_of(*parts: bytes) -> str:
 
 
 def folder_at(path: str) -> pathlib.Path:
-    """The folder where it is kept, which is made where it is missing, for this user alone. One that is not this user's own is refused: what
+    """The folder where it is kept, which is made if it is missing, for this user alone. One that is not this user's own is refused: what
     is in it would be believed."""
     folder = pathlib.Path(files.absolute(path))
     try:
@@ -55,7 +55,7 @@ class Store:
         return digest_of(self.base.encode(), rest.encode(errors="surrogateescape"), text)[:32]
 
     def found(self, key: str) -> Optional[Evidence]:
-        """What is kept; nothing where there is nothing, or it is not what was written."""
+        """What is kept; nothing if there is nothing, or it is not what was written."""
         known = sealed_results.found(self.folder / f"{key}.json", key)
         return of_json(known) if known is not None else None
 

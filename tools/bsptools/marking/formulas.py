@@ -100,7 +100,7 @@ class Formula:
         return min((it.col_offset for it in nodes), default=0)
 
     def bound(self, values: Mapping[str, float], solution: Mapping[str, float]) -> Bound:
-        """What it comes to for these values, and those of the solution. Raises ValueError where it comes to nothing."""
+        """What it comes to for these values, and those of the solution. Raises ValueError if it comes to nothing."""
         left = _value(self.sides[0], values)
         more = {SOLUTION: _value(self.sides[0], solution)} if solution else {}
         right = _value(self.sides[1], {**values, **more})
@@ -108,7 +108,7 @@ class Formula:
 
 
 def told(value: float) -> str:
-    """A number as it is told: with commas, and no digits behind the point where it is whole."""
+    """A number as it is told: with commas, and no digits behind the point if it is whole."""
     return f"{int(value):,}" if value == int(value) else f"{value:,.2f}"
 
 

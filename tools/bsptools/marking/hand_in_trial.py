@@ -25,7 +25,7 @@ from ..framed.environment_calls import Tracer
 from ..outputs import contested_bytes
 from ..outputs.output_demux import ERROR, OUTPUT, Marks
 from ..outputs.report import Report, part
-from ..portable.portability import TRIES, verdict
+from ..portable.portability import TRIES, Builds, verdict
 from ..portable.portability_findings import told_contested
 from ..prepare.job import Job, prepared
 from ..program import elf
@@ -181,7 +181,7 @@ class Trial:
         return [emulator.program("bspcc"), *options, *warnings, "-fdiagnostics-color=never", *constants, self.name]
 
     def find_calls(self) -> None:
-        """Which of the calls that the sheet speaks of the hand-in's own code names, each with its line, or 0 where the text does not have it."""
+        """Which of the calls that the sheet speaks of the hand-in's own code names, each with its line, or 0 if the text does not have it."""
         target = self.folder / "calls.o"
         defines = self.plan.runs[0].defines if self.plan.runs else ()
         bounded_run.run(self.compiler(defines, "-c", "-o", target.name), COMPILER_SECONDS, MOST_COMPILED, compiler_environment(self.folder))
@@ -244,7 +244,7 @@ class Trial:
         return ended
 
     def ended(self, job: Job, ran: Ran, most: int) -> Tuple[Ended, Optional[Report]]:
-        """What a run came to, and its report where it has one."""
+        """What a run came to, and its report if it has one."""
         marks = Marks(job.mark)
         pieces = list(marks.take(ran.output))
         whole = b"".join(it for kind, it in pieces if kind == OUTPUT) + marks.left()
@@ -330,7 +330,8 @@ class Trial:
         self.found.portable, self.found.is_portable = [], False
         with patient(self.patience):
             job = self.job(run, pathlib.Path(self.name), "portable")
-            found = verdict(job, self.folder / "portable")
+            with Builds(job.options, self.folder / "portable") as builds:
+                found = verdict(job, self.folder / "portable", builds)
             self.found.portable = [it.replace("bsprun: ", "", 1) for it in found.lines()] if found else [UNTRIED]
             self.found.is_portable = found is not None and not found.found
             return

@@ -9,7 +9,7 @@ import base64
 import hashlib
 import html
 import pathlib
-from typing import Callable, List, Sequence
+from typing import Callable, List, Sequence, Tuple
 
 from ..refusals import counted
 from .cost_bars import picture
@@ -23,8 +23,8 @@ MOST_LINES, MOST_LETTERS = 24, 400
 NO_LINE = '<td class="none">no such line</td>'
 LEGEND = "Blue is work (w), orange the exchange (g h), violet the barrier (l); a line ends each superstep. Point at a piece for its number."
 
-# The command that makes a run again, by the name of a hand-in, the number of the run, and options if it is not to tell its costs.
-Again = Callable[..., str]
+# The commands that make a run again and that write a page to watch it, by the name of a hand-in and the number of the run.
+Again = Callable[[str, int], Tuple[str, str]]
 
 
 def page(sheet: Sheet, found: Sequence[Marks], wanted: Sequence[Wanted], again: Again) -> str:
@@ -90,8 +90,8 @@ def details(sheet: Sheet, marks: Marks, wanted: Sequence[Wanted], again: Again) 
         if bars:
             parts.append(f"<h3>Costs on {text(sheet.runs[number])}, g = {case.g}, l = {case.l}</h3>")
             parts += [picture(bars, case.g, case.l), f"<p>{LEGEND}</p>"]
-        parts += ["<h3>The same run again</h3>", block([again(marks.name, number)])]
-        parts += ["<h3>The same run in a page, to watch it</h3>", block([again(marks.name, number, "--page", "run.html")])]
+        repeated, watched = again(marks.name, number)
+        parts += ["<h3>The same run again</h3>", block([repeated]), "<h3>The same run in a page, to watch it</h3>", block([watched])]
     if marks.evidence.said:
         parts += ["<h3>What the compiler said</h3>", block(marks.evidence.said)]
     return parts

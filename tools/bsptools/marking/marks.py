@@ -26,14 +26,14 @@ LOST = {EMPTY: "there is no program", NOT_COMPILED: "it does not compile", UNJUD
 
 
 class Judgement(NamedTuple):
-    """What a checker says of a run: a verdict and the fault, or nothing where it is right."""
+    """What a checker says of a run: a verdict and the fault, or nothing if it is right."""
 
     verdict: str = ""
     fault: str = ""
 
 
 class Wanted(NamedTuple):
-    """What is wanted of a run: its output, where the sheet has one, and what the solution costs, where there is one."""
+    """What is wanted of a run: its output, where the sheet has one, and what the solution costs, if there is one."""
 
     output: Optional[bytes] = None
     costs: Mapping[str, float] = {}

@@ -70,7 +70,7 @@ class Run(NamedTuple):
 
 
 class Bound(NamedTuple):
-    """A bound of costs: on which nodes and in which case it holds, all where it says nothing, what it is worth, and a hint."""
+    """A bound of costs: on which nodes and in which case it holds, all if it says nothing, what it is worth, and a hint."""
 
     formula: Formula
     points: float

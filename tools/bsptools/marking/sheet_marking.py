@@ -299,7 +299,7 @@ class Marking:
     # Checkers.
 
     def judged(self, found: Sequence[Evidence]) -> List[Optional[List[Judgement]]]:
-        """What the sheet's checker says of each run of each hand-in; None where there is no checker."""
+        """What the sheet's checker says of each run of each hand-in; None if there is no checker."""
         answers: List[Optional[List[Judgement]]] = [None] * len(found)
         if not self.sheet.checker:
             return answers
@@ -346,16 +346,23 @@ class Marking:
     # What a person repeats.
 
     def again(self, name: str, number: int, *options: str) -> str:
-        """The command that makes a run of a hand-in again, with its costs, or with other options of bsprun: to look for the usual mistakes,
-        or to watch the run in a page."""
+        """The command that makes a run of a hand-in again, with its costs, or with other options of bsprun to look for the usual mistakes."""
         sheet, run, given = self.sheet, self.sheet.runs[number], self.input_file(number)
-        costs = ["--report", "-", "--g", str(run.case.g), "--l", str(run.case.l)]
-        words = [tool("bsprun"), "-n", str(run.nodes), *(options or costs)]
+        words = [tool("bsprun"), "-n", str(run.nodes), *(options or ["--report", "-", *self.prices(number)])]
         words += ["--memory", str(sheet.memory)] if sheet.memory != MEMORY else []
         words += [f"-D{it}={value}" for it, value in self.plan.runs[number].defines]
         words += ["--input", given] if given else []
         words += [it for name in run.case.given for it in ("--file", os.path.relpath(sheet.file(name)))]
         return shlex.join([*words, name if not name.startswith("-") else f"./{name}", *run.case.args])
+
+    def watched(self, name: str, number: int) -> str:
+        """The command that writes a page in which a run of a hand-in is watched."""
+        return self.again(name, number, "--page", "run.html", *self.prices(number))
+
+    def prices(self, number: int) -> List[str]:
+        """The options of bsprun for the prices of a run."""
+        case = self.sheet.runs[number].case
+        return ["--g", str(case.g), "--l", str(case.l)]
 
     def input_file(self, number: int) -> str:
         """The file with the input of a run: the sheet's own, or one that is kept beside the results."""
@@ -375,7 +382,7 @@ class Marking:
 
 
 def cache_at(folder: pathlib.Path) -> str:
-    """The folder of the user's in which bspcc keeps its library, or one for a while where there is none: to build it for each hand-in would
+    """The folder of the user's in which bspcc keeps its library, or one for a while if there is none: to build it for each hand-in would
     take longer than all else."""
     kept = own_folders.cache("bspcc")
     return os.path.dirname(kept) if kept and os.access(kept, os.W_OK) else str(folder / "cache")
@@ -388,7 +395,7 @@ class Progress:
         self.count, self.done, self.told = count, 0, -1
 
     def show(self) -> None:
-        """Shows it, where there are several."""
+        """Shows it, if there are several."""
         if self.count > 1 and self.done != self.told:
             self.told = self.done
             show(f"bspcheck: {self.done} of {counted(self.count, 'hand-in')} tried")

@@ -5,6 +5,7 @@ In which order these land is open.
 
 from __future__ import annotations
 
+import functools
 import os
 import pathlib
 import re
@@ -81,27 +82,27 @@ def read(path: str | os.PathLike[str], nodes: int, last: int, most: int = MOST_P
 
 def rows(path: str | os.PathLike[str], most: int = MOST_PLACES) -> Iterator[Contested | int]:
     """The first rows of a file of contested bytes, and then how many there are more; what is none raises ValueError."""
-    with about(path), open(path, encoding="ascii", errors="replace", newline="") as file:
+    with about(path), open(path, "rb") as file:
         if os.fstat(file.fileno()).st_size > MOST_BYTES:
             raise Refused(f"the list of contested bytes exceeds {MOST_BYTES} bytes: use fewer nodes or fewer supersteps")
-        if file.readline(2 * MOST_LINE) != HEADER + "\n":
+        if file.readline(2 * MOST_LINE) != HEADER.encode() + b"\n":
             raise Unfit("it does not begin as contested bytes do")
         for _ in range(most):
-            line = file.readline(MOST_LINE)
+            line = file.readline(MOST_LINE).decode("ascii", errors="replace")
             if not line:
                 return
             cells = line[:-1].split(",")
             if not line.endswith("\n") or len(cells) != 4 + 2 * len(COLUMNS):
                 raise Unfit(f"{line[:40]!r} is not a line of contested bytes")
             yield row_of(cells)
-        yield sum(piece.count("\n") for piece in iter(lambda: file.read(1 << 20), ""))
+        yield sum(piece.count(b"\n") for piece in iter(lambda: file.read(1 << 20), b""))
 
 
 def row_of(cells: list[str]) -> Contested:
     """A row of its columns."""
     superstep, rank = whole(cells[0], MOST_COST), whole(cells[1], MOST_NODES - 1)
     address, size = digits(cells[2], 8), whole(cells[3], MOST_MEMORY)
-    it = Contested(superstep, rank, address, size, request_of(cells[4:8]), request_of(cells[8:]))
+    it = Contested(superstep, rank, address, size, request_of(*cells[4:8]), request_of(*cells[8:]))
     if size < 1 or address + size > MOST_MEMORY or it.first.byte == it.second.byte or it.first[1:3] == it.second[1:3]:
         raise Unfit(f"no requests contest {size} bytes at address {address:#x}: {it.first}, {it.second}")
     if any(asked.kind == "get" and asked.rank != rank for asked in (it.first, it.second)):
@@ -109,9 +110,9 @@ def row_of(cells: list[str]) -> Contested:
     return it
 
 
-def request_of(cells: list[str]) -> Request:
-    """A request of its columns."""
-    kind, rank, number, byte = cells
+@functools.lru_cache(maxsize=1024)
+def request_of(kind: str, rank: str, number: str, byte: str) -> Request:
+    """A request of its columns. Many lines have the same ones."""
     if kind not in ("get", "put"):
         raise Unfit(f"{kind!r} is neither get nor put")
     return Request(kind, whole(rank, MOST_NODES - 1), whole(number, MOST_REQUESTS - 1), digits(byte, 2))

@@ -24,7 +24,7 @@ BEGIN = b"superstep 0: w "
 
 
 def marked(image: bytes, given: bytes) -> tuple[bytes, bytes]:
-    """An image whose standard error is marked, with the mark; as it is, and no mark, where it has no one place for it.
+    """An image whose standard error is marked, with the mark; as it is, and no mark, if it has no one place for it.
 
     The mark follows from the program and its input, so that each run writes the same, and no program has it in its output. The last of its
     bytes is the kind of what stands behind it, and no part of what is answered.

@@ -54,7 +54,7 @@ def lines_from_the_end(written: bytes) -> Iterator[tuple[bytes, int]]:
 
 
 def part(written: bytes) -> tuple[memoryview, Report] | None:
-    """The output and the report of what the emulator wrote; None where no report stands at its end."""
+    """The output and the report of what the emulator wrote; None if no report stands at its end."""
     lines = lines_from_the_end(written if written.endswith(b"\n") else b"")
     outcome, _ = next(lines, (b"", 0))
     total = TOTAL.match(next(lines, (b"", 0))[0])
@@ -83,7 +83,7 @@ class Brief(NamedTuple):
 
 
 def brief(written: bytes) -> Brief | None:
-    """The same of what the emulator wrote without a look at each superstep, of which there may be many; None where no report stands at its
+    """The same of what the emulator wrote without a look at each superstep, of which there may be many; None if no report stands at its
     end."""
     begin = max(written.rfind(BEGIN), 0)
     lines = written[begin:].split(b"\n")

@@ -14,7 +14,7 @@ from .report import MOST_COST, Report, Superstep, checked, part
 
 def read(content: bytes) -> Report | None:
     """The report of a file in any of its three forms. It is refused where it begins as one and is none that the emulator writes, and None
-    where it is something else."""
+    if it is something else."""
     try:
         if content.startswith(b"{"):
             return of_json(json.loads(content))

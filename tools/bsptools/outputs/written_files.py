@@ -29,7 +29,7 @@ class Written:
 
     @property
     def parts(self) -> tuple[str, ...]:
-        """The names of the folders that lead to it, and its own, below the folder where files go. Nothing where it would not be below that, or
+        """The names of the folders that lead to it, and its own, below the folder where files go. Nothing if it would not be below that, or
         has no name that a file can have."""
         first, *names = below_here(os.fsdecode(self.name)).split("/")
         found: list[str] = []
@@ -80,7 +80,7 @@ class Files:
                 file[place:end] = content
 
     def resize(self, file: bytearray, size: int) -> bool:
-        """Gives a file so many bytes, new ones of which are 0, where there is room for them."""
+        """Gives a file so many bytes, new ones of which are 0, if there is room for them."""
         more = size - len(file)
         if self.size + more > MOST_WRITTEN:
             self.is_whole = False
@@ -155,7 +155,7 @@ def ends_alike(one: bytes, other: bytes) -> bool:
 
 @contextlib.contextmanager
 def opened(folder: Folder, names: Sequence[str]) -> Iterator[int]:
-    """A folder below another one, which is made where it is missing. A link on the way is refused, and not followed."""
+    """A folder below another one, which is made if it is missing. A link on the way is refused, and not followed."""
     place, path = os.open(os.curdir, os.O_RDONLY | os.O_DIRECTORY, dir_fd=folder.number), folder.name
     try:
         for name in names:

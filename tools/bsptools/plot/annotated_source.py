@@ -71,7 +71,7 @@ class Rows:
 
     @staticmethod
     def title(line: Line) -> str:
-        """What is told of a line where there is no room for it."""
+        """What is told of a line if there is no room for it."""
         parts = [f"{line.function}: {line.paid} by itself"]
         if line.with_calls is not None:
             parts.append(f"{line.with_calls} with all that it calls{'' if line.is_exact else ', apportioned'}")

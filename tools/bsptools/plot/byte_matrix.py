@@ -122,7 +122,7 @@ def frame(axes: Axes, nodes: int) -> None:
 
 
 def cells(made: Picture, axes: Axes, found: dict[tuple[int, int], int], shade: Normalize, reading: Reading, nodes: int) -> None:
-    """A cell for each two ranks between which bytes went, with their number where there is room."""
+    """A cell for each two ranks between which bytes went, with their number if there is room."""
     for (rank, to), count in sorted(found.items()):
         is_kept = rank == to and reading is Reading.OTHERS
         look = KEPT if is_kept else {"facecolor": SHADES(shade(float(count))), "edgecolor": "white", "linewidth": 0.5}

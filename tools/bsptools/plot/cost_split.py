@@ -15,7 +15,7 @@ MOST_LETTERS = 105
 
 
 def legend(costs: list[Cost], prices: Prices, is_apart: bool) -> list[str]:
-    """What each part comes to, and how much of the work was printing, where that is known."""
+    """What each part comes to, and how much of the work was printing, if that is known."""
     whole = total(costs, prices)
     sums = [sum(it.parts(prices)[index] for it in costs) for index in range(len(NAMES))]
     shares = [f"{label}: {thousands(it)} ticks, {float(100 * it / max(whole, 1)):.1f} %" for (_, label, _), it in zip(NAMES, sums)]

@@ -59,7 +59,7 @@ class Plan:
         return self.some(self.source.costs, MOST_SUPERSTEPS)
 
     def some(self, them: list[Shown], most: int) -> list[Shown]:
-        """The first of these that were asked for, with a line where there are more."""
+        """The first of these that were asked for, with a line if there are more."""
         first, last = self.options.supersteps
         them = [it for it in them if it.number >= first and (last is None or it.number <= last)]
         if not them:
@@ -142,7 +142,7 @@ def settings(plan: Plan) -> list[tuple[str, str]]:
 
 
 def printing(plan: Plan) -> str:
-    """What a page says of the work of output functions, where that is known."""
+    """What a page says of the work of output functions, if that is known."""
     printed, w = superstep_costs.printed(plan.source.costs), sum(it.w for it in plan.source.costs)
     share = f"{thousands(printed)} of the {thousands(w)} ticks of w, {100 * printed / max(w, 1):.1f} %; --apart printing leaves it out"
     return "left out of w" if plan.source.is_apart else share if printed else ""

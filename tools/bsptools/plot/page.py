@@ -75,7 +75,7 @@ def table(heads: Sequence[str], rows: Sequence[Sequence[object]]) -> str:
 
 
 def cut(rows: list[list[object]]) -> tuple[list[list[object]], str]:
-    """The first rows, and a text that says so where there are more."""
+    """The first rows, and a text that says so if there are more."""
     return rows[:MOST_ROWS], f" The first {MOST_ROWS} of {len(rows)} are shown." if len(rows) > MOST_ROWS else ""
 
 

@@ -31,7 +31,7 @@ class Share(NamedTuple):
 
     ticks are its instructions; sent and received are bytes to and from other ranks, and kept those that it moved to itself; messages
     came from other ranks; requests are the puts, gets and messages that it asked for; state is how it stood at the end. printed are the
-    ticks in output functions, 0 where they were not counted.
+    ticks in output functions, 0 if they were not counted.
     """
 
     ticks: int

@@ -63,7 +63,7 @@ def printed(costs: list[Cost]) -> int:
 
 
 def without_printing(costs: list[Cost]) -> list[Cost]:
-    """The same costs without the work of printing, where that is known."""
+    """The same costs without the work of printing, if that is known."""
     return [Cost(it.number, it.w if it.w_without is None else it.w_without, it.h) for it in costs]
 
 

@@ -89,7 +89,7 @@ def foot(names: int) -> float:
 
 def looks(them: list[Line]) -> list[dict[str, str]]:
     """How each line is drawn: a colour and a mark for each choice of settings and prices, and a style for each program, whose marks are
-    full or empty. Where there is one choice alone, the programs have colours and marks too."""
+    full or empty. If there is one choice alone, the programs have colours and marks too."""
     kinds = list(dict.fromkeys((it.settings, it.prices) for it in them))
     programs = list(dict.fromkeys(it.program for it in them))
     found = []

@@ -49,7 +49,7 @@ class Sums(NamedTuple):
 
 
 class Row(NamedTuple):
-    """A run: a program with its settings at these prices, its total and its sums; none where it did not end."""
+    """A run: a program with its settings at these prices, its total and its sums; none if it did not end."""
 
     program: str
     nodes: int
@@ -149,7 +149,7 @@ def short_names(programs: set[str]) -> dict[str, str]:
 
 
 def labels(them: list[Line]) -> list[str]:
-    """A text for each line, of what tells them apart; the program where nothing does."""
+    """A text for each line, of what tells them apart; the program if nothing does."""
     return telling([[*named(it), ("", str(it.prices))] for it in them])
 
 
@@ -159,7 +159,7 @@ def named(line: Line) -> list[tuple[str, str]]:
 
 
 def telling(parts: list[list[tuple[str, str]]]) -> list[str]:
-    """A text for each of these lists of names and values, of the values that not all of them have; the first one where there are none."""
+    """A text for each of these lists of names and values, of the values that not all of them have; the first one if there are none."""
     common = set(parts[0]).intersection(*parts[1:])
     texts = []
     for part in parts:

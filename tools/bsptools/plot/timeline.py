@@ -89,7 +89,7 @@ class Span:
         axes.axvline(float(self.end), color="black", linewidth=0.6)
 
     def name(self, axes: Axes, named: float) -> float:
-        """Writes its number above its middle, where that is far enough from the last number; up to where numbers are written is answered."""
+        """Writes its number above its middle, if that is far enough from the last number; up to where numbers are written is answered."""
         middle, whole = float(self.start + self.end) / 2, float(self.whole)
         text = str(self.superstep.number)
         if not fits(text, 2 * (middle - named) / whole):
@@ -99,7 +99,7 @@ class Span:
         return middle + width(text) / 2 * whole
 
     def rank(self, made: Picture, axes: Axes, rank: int, ticks: int, printed: int) -> None:
-        """The work of a rank, with the number where there is room, and its waiting."""
+        """The work of a rank, with the number if there is room, and its waiting."""
         number, done = self.superstep.number, self.start + ticks
         top = rank - BAR / 2
         text = f"superstep {number}, rank {rank}: work {ticks}" + (f", {printed} of it printing" if printed else "")
@@ -127,7 +127,7 @@ class Span:
 
     @staticmethod
     def bar(made: Picture, axes: Axes, name: str, text: str, color: str, top: float, height: float, x: tuple[Exact, Exact]) -> None:
-        """A bar from one time to another; none where both are the same."""
+        """A bar from one time to another; none if both are the same."""
         if x[1] > x[0]:
             mark = axes.add_patch(Rectangle((float(x[0]), top), float(x[1] - x[0]), height, facecolor=color, linewidth=0))
             made.mark(mark, name, text)

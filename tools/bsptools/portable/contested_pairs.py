@@ -62,22 +62,42 @@ def pairs(rows: Sequence[Contested], steps: Sequence[Superstep]) -> List[Pair]:
     return list(found.values())
 
 
+class Landed(NamedTuple):
+    """What has landed at some bytes, in that order, and the pairs of requests among it that count: of each the first and the last, and
+    whether the row of these bytes names the two."""
+
+    here: List[Tuple[Bytes, Logged]]
+    both: List[Tuple[int, int, bool]]
+
+
 def places(rows: Sequence[Contested], steps: Sequence[Superstep]) -> Iterator[Place]:
     """The places of contested bytes, each of which two requests contest as a whole."""
     known: Tuple[int, int] | None = None
     landed: List[Tuple[Bytes, Logged]] = []
     going: List[Tuple[Bytes, Logged]] = []
+    edges: List[int] = []
+    found: Dict[Tuple[int, ...], Landed] = {}
     at = 0
     for row in rows:
         if (row.superstep, row.rank) != known:
-            known, at, going = (row.superstep, row.rank), 0, []
+            known, at, going, edges = (row.superstep, row.rank), 0, [], []
             landed = landings(steps[row.superstep], row.rank) if row.superstep < len(steps) else []
+            found.clear()
         start, end = row.address, row.address + row.size
-        going = [it for it in going if it[0].end > start]
-        while at < len(landed) and landed[at][0].start < end:
-            going += [landed[at]] if landed[at][0].end > start else []
-            at += 1
-        yield from places_in(row, going)
+        # Of many rows side by side the same has landed.
+        if (at < len(landed) and landed[at][0].start < end) or (edges and edges[0] < end):
+            going = [it for it in going if it[0].end > start]
+            while at < len(landed) and landed[at][0].start < end:
+                going += [landed[at]] if landed[at][0].end > start else []
+                at += 1
+            edges = sorted({edge for it, _ in going for edge in (it.start, it.end) if edge > start})
+            found.clear()
+        inside = [it for it in edges if it < end]
+        for low, high in zip([start, *inside], [*inside, end]):
+            key = (*row.first[1:3], *row.second[1:3], *((low, high) if inside else ()))
+            if key not in found:
+                found[key] = landed_at(row, low, high, going)
+            yield from places_in(row, low, high, found[key])
 
 
 def landings(step: Superstep, rank: int) -> List[Tuple[Bytes, Logged]]:
@@ -86,25 +106,27 @@ def landings(step: Superstep, rank: int) -> List[Tuple[Bytes, Logged]]:
     return sorted((where, it) for where, it in found if where is not None and where.rank == rank)
 
 
-def places_in(row: Contested, landed: Sequence[Tuple[Bytes, Logged]]) -> Iterator[Place]:
-    """The parts of a row between the ends of what has landed there."""
-    start, end = row.address, row.address + row.size
-    edges = sorted({start, end, *(edge for it, _ in landed for edge in (it.start, it.end) if start < edge < end)})
-    for low, high in zip(edges, edges[1:]):
-        here = sorted(((order(it), where, it) for where, it in landed if where.start <= low and high <= where.end), key=lambda it: it[0])
-        if len(here) < 2:
-            continue
-        named = [at for at, (_, _, it) in enumerate(here) if is_asked(it, row.first) or is_asked(it, row.second)]
-        is_known = len(named) == 2
-        both = [(named[0], named[1]) if is_known else (0, len(here) - 1)]
-        # Of more than two the others may bring other values, too: the first of each place in the code.
-        firsts = {it.place: at for at, (_, _, it) in reversed(list(enumerate(here)))}
-        both += [(at, len(here) - 1) for at in firsts.values() if at < len(here) - 1] if len(here) > 2 else []
-        both = list({tuple(sorted((here[one][2].place, here[two][2].place))): (one, two) for one, two in reversed(both)}.values())[::-1]
-        for which, (other, last) in enumerate(both):
-            cuts = [Cut(row.superstep, it.rank, it.request, low - where.start, high - where.start) for _, where, it in here[other + 1 :]]
-            known = row if is_known and which == 0 else None
-            yield Place(row.superstep, Bytes(row.rank, low, high), here[last][2], here[other][2], tuple(cuts), known)
+def landed_at(row: Contested, low: int, high: int, landed: Sequence[Tuple[Bytes, Logged]]) -> Landed:
+    """What has landed at a part of a row between the ends of requests."""
+    here = sorted(((order(it), where, it) for where, it in landed if where.start <= low and high <= where.end), key=lambda it: it[0])
+    if len(here) < 2:
+        return Landed([], [])
+    named = [at for at, (_, _, it) in enumerate(here) if is_asked(it, row.first) or is_asked(it, row.second)]
+    is_known = len(named) == 2
+    both = [(named[0], named[1]) if is_known else (0, len(here) - 1)]
+    # Of more than two the others may bring other values, too: the first of each place in the code.
+    firsts = {it.place: at for at, (_, _, it) in reversed(list(enumerate(here)))}
+    both += [(at, len(here) - 1) for at in firsts.values() if at < len(here) - 1] if len(here) > 2 else []
+    both = list({tuple(sorted((here[one][2].place, here[two][2].place))): (one, two) for one, two in reversed(both)}.values())[::-1]
+    return Landed([it[1:] for it in here], [(one, two, is_known and which == 0) for which, (one, two) in enumerate(both)])
+
+
+def places_in(row: Contested, low: int, high: int, landed: Landed) -> Iterator[Place]:
+    """The places of a part of a row."""
+    here = landed.here
+    for other, last, is_known in landed.both:
+        cuts = [Cut(row.superstep, it.rank, it.request, low - where.start, high - where.start) for where, it in here[other + 1 :]]
+        yield Place(row.superstep, Bytes(row.rank, low, high), here[last][1], here[other][1], tuple(cuts), row if is_known else None)
 
 
 def order(it: Logged) -> Landing:

@@ -2,6 +2,8 @@
 
 from __future__ import annotations
 
+import struct
+from collections.abc import Sequence
 from typing import NamedTuple
 
 from ..framed.replays import Replays
@@ -14,6 +16,8 @@ LIBRARY = "system.c"
 # What bsplib and a C library have, by the beginnings of names and by whole names.
 OTHERS = ("bsp_", "__", "_ZSt", "_ZNSt", "_ZTVN10__cxx", "_ZGVNSt")
 C_LIBRARY = {"errno", "environ", "stdin", "stdout", "stderr", "optarg", "optind", "opterr", "optopt", "signgam", "suboptarg", "tzname"}
+# The sum before what the library tells of variables, and what stands before each block: its address and its size.
+SUM_BYTES, HEAD = 4, struct.Struct("<II")
 # Bytes of variables that are compared, over all ranks: those of the lower ranks where there are more.
 MOST_COMPARED = 1 << 24
 MOST_AT_ONCE = 1 << 16
@@ -62,21 +66,45 @@ def ranges_of(variables: list[Variable]) -> list[tuple[int, int]]:
     return found
 
 
-def at_end(replays: Replays, nodes: int, variables: list[Variable]) -> list[bytes]:
-    """The memory of each rank at the end of a run, from the first variable to the end of the last one."""
-    start, end = variables[0].address, max(it.address + it.size for it in variables)
-    memories = []
+def extent(variables: list[Variable]) -> tuple[int, int]:
+    """From where to where all of them lie."""
+    return variables[0].address, max(it.address + it.size for it in variables)
+
+
+def at_end(replays: Replays, ranks: Sequence[int], variables: list[Variable]) -> dict[int, bytes]:
+    """The memory of ranks at the end of a run, from the first variable to the end of the last one: of the first of them if it is too much."""
+    start, end = extent(variables)
+    memories = {}
     with replays.session() as session:
         session.ask("go")
-        for rank in range(min(nodes, max(MOST_COMPARED // (end - start), 1))):
+        for rank in ranks[: max(MOST_COMPARED // (end - start), 1)]:
             places = range(start, end, MOST_AT_ONCE)
-            memories.append(b"".join(memory_of(session, rank, it, min(end - it, MOST_AT_ONCE)) for it in places))
+            memories[rank] = b"".join(memory_of(session, rank, it, min(end - it, MOST_AT_ONCE)) for it in places)
     return memories
 
 
-def difference(variables: list[Variable], one: list[bytes], other: list[bytes]) -> Difference | None:
+def told(content: bytes, variables: list[Variable]) -> bytes | None:
+    """The same memory of a rank by what the library has told of it, behind a sum: only the blocks that are not 0. Nothing if that was too
+    much to tell, or if it is no such thing."""
+    start, end = extent(variables)
+    count, at = int.from_bytes(content[SUM_BYTES : SUM_BYTES + 4], "little"), SUM_BYTES + 4
+    memory = bytearray(end - start)
+    for _ in range(count):
+        if at + HEAD.size > len(content):
+            return None
+        address, size = HEAD.unpack_from(content, at)
+        at += HEAD.size
+        if not start <= address <= end - size or at + size > len(content):
+            return None
+        memory[address - start : address - start + size] = content[at : at + size]
+        at += (size + 3) // 4 * 4
+    return bytes(memory)
+
+
+def difference(variables: list[Variable], one: dict[int, bytes], other: dict[int, bytes]) -> Difference | None:
     """The first difference between two ends, by ranks and then by addresses."""
-    for rank, (a, b) in enumerate(zip(one, other)):
+    for rank in sorted(one.keys() & other.keys()):
+        a, b = one[rank], other[rank]
         for it in variables if a != b else ():
             start = it.address - variables[0].address
             here, there = a[start : start + it.size], b[start : start + it.size]

@@ -10,6 +10,7 @@ import pathlib
 import re
 from collections.abc import Sequence
 
+from .. import emulator
 from ..limits import WORKERS
 from ..prepare.job import Job
 from ..prepare.library_choices import EARLY, EVERYWHERE, LATE, MOST_CUTS, NUMBERED, REVERSED, SHUFFLED, WORD, Choices, Cut, Point, image_with
@@ -81,9 +82,15 @@ def is_number(text: str) -> bool:
 
 def with_order(job: Job, folder: pathlib.Path) -> Job:
     """A job of a program that takes choices, with those of --order."""
+    with emulator.Runs() as runs:
+        return ordered(job, folder, runs)
+
+
+def ordered(job: Job, folder: pathlib.Path, runs: emulator.Runs) -> Job:
+    """The same with what makes runs."""
     choices, turned = choices_of(job.options.order)
     job.options.workers = getattr(job.options, "workers", WORKERS)
-    subject = Subject(job.options, job.program, job.code, job.settings, folder, b"")
+    subject = Subject(job.options, job.program, job.code, job.settings, folder, b"", runs)
     trials = Trials(subject, job.content, read_elf(job.content), job.options.limit)
     if turned and choices.is_alone:
         raise Refused("--order takes begin:alone or an order of puts, but not both")

@@ -2,16 +2,17 @@
 
 from __future__ import annotations
 
+import argparse
 import concurrent.futures
 import contextlib
 import functools
 import math
 import pathlib
 import re
-import subprocess
-from collections.abc import Callable
+from collections.abc import Callable, Sequence
 from dataclasses import dataclass, field
 
+from .. import emulator
 from ..files import content_of
 from ..framed.environment_calls import POP, PUSH, SEND, Tracer
 from ..framed.replays import Replays
@@ -20,14 +21,14 @@ from ..outputs import contested_bytes, exposed_ranges, output_records
 from ..prepare.compilation import compiled
 from ..prepare.job import Job
 from ..prepare.library_choices import EARLY, LATE, MOST_CUTS, NUMBERED, REVERSED, SHUFFLED, WATCHED, Choices, Cut, Point
-from ..program.code import read_elf
+from ..program.code import Code, read_elf
 from ..refusals import Refused, counted, show, tell
 from . import exposed_accesses, exposed_pairs, final_variables, orders, sums_of_messages, unbuffered_races
 from .accepted_places import Accepted
 from .call_log import INPUT, NO_MESSAGE, Logged, Superstep
 from .contested_pairs import Pair, pairs
 from .portability_findings import CALLS, QUEUE, Finding, Findings, Other, again, described, parted, told_contested, told_exposed, told_variable
-from .trial_runs import Ending, NoRoom, Subject, Trials, ending_of, least, run_each
+from .trial_runs import Ending, NoRoom, Subject, Trials, ending_of, least
 
 TIMES = (Choices(unbuffered=EARLY), Choices(unbuffered=LATE))
 PATTERNS = (0x40, 0xC1)
@@ -35,17 +36,20 @@ PATTERNS = (0x40, 0xC1)
 SPOILT = 0x5A
 # GCC gives each variable of a function that has no value these bits, in builds for the second and third run.
 VALUES = ("pattern", "zero")
-MOST_BUILDS = 3
+MOST_BUILDS = 4
 CHANGED = "the source of an unbuffered call is other at bsp_sync: call "
 # What a program says where there are more nodes than it takes, and one that ends with a status of its own.
 MORE_NODES = b"there are more nodes than the program takes in bsp_begin"
 OWN_STATUS = b": the program ended with status "
 # In how many orders messages come where --tries does not say it, and of how many messages all orders are tried.
 TRIES, MOST_ORDERED = 8, 4
+# In how many orders of the first a variable is told of that differs.
+MOST_NOTED = 3
 # In how many orders more, if sums of numbers with a point are others in them.
 MOST_SUMS = 2
 # What puts and gets, also where it is not called in the run as it is.
 ASKING = ("__wrap_bsp_put", "__wrap_bsp_get", *CALLS)
+LOOKING = ("--portable=accesses", "-Og")
 ACCESSES = "accesses of ranks to bytes of unbuffered calls"
 # Over how many bytes of variables a run tells a sum.
 MOST_SUMMED = 1 << 22
@@ -81,20 +85,41 @@ class Verdict:
         return [*told, f"bsprun: {'portable in all that was looked for; ' if is_portable else ''}not looked for: {', '.join(NOT_LOOKED_FOR)}"]
 
 
+def has_one(code: Code, *names: str) -> bool:
+    """Whether a program has one of these functions, as far as its names tell."""
+    return not code.names or any(it in code.names for it in names)
+
+
+class FirstRuns:
+    """The first runs of a program, none of which depends on what another one comes to. They are begun side by side."""
+
+    def __init__(self, subject: Subject, trials: Trials) -> None:
+        self.subject, self.trials, self.file = subject, trials, subject.folder / "exposed.csv"
+        self.code = trials.code.know_names()
+        self.cuts = orders.variables_of(self.code)
+        if len(self.cuts) < MOST_CUTS and sum(it.end - it.start for it in self.cuts) <= MOST_SUMMED:
+            trials.summed = self.cuts
+        # All else is found out from the calls of the run as it is.
+        trials.begin_all([Choices()], has_one(self.code, *ASKING), logged=[Choices()])
+        command = [*subject.command(trials.nodes, subject.limit), "--exposed", str(self.file)]
+        self.exposing = subject.runs.begin(command) if has_one(self.code, *CALLS) else None
+        nodes = [it for it in (trials.nodes - 1, trials.nodes + 1) if 1 <= it <= MOST_NODES]
+        self.on_other_nodes = [(it, subject.runs.begin(subject.command(it, trials.limit))) for it in nodes]
+
+
 class Portable:
     """Looks for what a run rests on."""
 
-    def __init__(self, builds: Builds, trials: Trials, ended: Ending, contested: contested_bytes.Found, accepted: Accepted) -> None:
-        self.builds, self.subject = builds, builds.subject
-        self.trials, self.ended, self.contested, self.accepted = trials, ended, contested, accepted
-        self.code = trials.code.know_names()
-        self.variables = final_variables.of_program(self.code)
-        self.cuts = orders.variables_of(self.code)
-        self.known: dict[Choices, list[bytes]] = {}
+    def __init__(self, first: FirstRuns, builds: Builds, ended: Ending, contested: contested_bytes.Found, accepted: Accepted) -> None:
+        self.first, self.subject, self.builds, self.trials = first, first.subject, builds, first.trials
+        self.ended, self.contested, self.accepted = ended, contested, accepted
+        self.code = self.trials.code.know_names()
+        self.variables, self.cuts = final_variables.of_program(self.code), first.cuts
+        self.known: dict[Choices, dict[int, bytes]] = {}
         self.told_pairs: set[tuple[int, ...]] = set()
-        self.on_other_nodes: list[tuple[int, subprocess.CompletedProcess[bytes]]] = []
-        # What the machine's calls expose in the run as it is; nothing where the program has no call that can.
-        self.exposures = exposed_ranges.Found([], True)
+        # Builds that look at accesses, and in which variables of functions have values.
+        self.looking: Trials | None = None
+        self.valued: list[tuple[Trials, list[str]]] | None = None
         # Whether something of what seldom counts does, so that each part of it is looked for by itself.
         self.is_rare = True
         self.verdict = Verdict()
@@ -114,22 +139,19 @@ class Portable:
         """The calls of the run as it is."""
         return self.trials.log(Choices())
 
+    @functools.cached_property
+    def exposures(self) -> exposed_ranges.Found:
+        """What the machine's calls expose in the run as it is; nothing if the program has no call that can."""
+        if self.first.exposing is None:
+            return exposed_ranges.Found([], True)
+        return exposed_ranges.of_run(self.first.exposing.result(), self.first.file, self.trials.nodes, self.ended.last)
+
     def begin(self) -> None:
-        """Makes the first runs, none of which depends on what another one comes to, side by side."""
+        """Begins the runs that depend on nothing but whether the program writes something."""
+        self.trials.begin_all(self.fresh_choices())
         if self.subject.options.sources:
             for value in VALUES:
                 self.builds.begin(*options_for(value))
-        nodes = [it for it in (self.trials.nodes - 1, self.trials.nodes + 1) if 1 <= it <= MOST_NODES]
-        if len(self.cuts) < MOST_CUTS and sum(it.end - it.start for it in self.cuts) <= MOST_SUMMED:
-            self.trials.summed = self.cuts
-        beside = [self.subject.command(it, self.trials.limit) for it in nodes]
-        file = self.subject.folder / "exposed.csv"
-        can_expose = self.has(*CALLS)
-        beside += [[*self.subject.command(self.trials.nodes, self.subject.limit), "--exposed", str(file)]] if can_expose else []
-        done = self.trials.begin_all([Choices(), *self.fresh_choices()], logged=[Choices()], beside=beside)
-        self.on_other_nodes = list(zip(nodes, done))
-        if can_expose:
-            self.exposures = exposed_ranges.of_run(done[-1], file, self.trials.nodes, self.ended.last)
 
     def fresh_choices(self) -> list[Choices]:
         """The runs with other bytes in fresh memory. Where a run is told by what it writes alone, one of them has also all else that seldom
@@ -160,7 +182,7 @@ class Portable:
 
     def has(self, *names: str) -> bool:
         """Whether the program has one of these functions, as far as its names tell."""
-        return not self.code.names or any(it in self.code.names for it in names)
+        return has_one(self.code, *names)
 
     def leave_out(self, line: str) -> None:
         """Tells of something that is looked for, and was not this time."""
@@ -177,19 +199,32 @@ class Portable:
 
     # What runs come to.
 
-    def memories(self, choices: Choices) -> list[bytes]:
-        """The program's variables at the end of a run."""
-        if choices not in self.known:
-            self.known[choices] = final_variables.at_end(self.trials.replays(choices), self.trials.nodes, self.variables)
-        return self.known[choices]
+    def memories(self, choices: Choices, ranks: Sequence[int]) -> dict[int, bytes]:
+        """The program's variables at the end of a run, of some ranks."""
+        known = self.known.setdefault(choices, {})
+        left = [it for it in ranks if it not in known]
+        known.update(final_variables.at_end(self.trials.replays(choices), left, self.variables) if left else {})
+        return known
 
     def difference(self, choices: Choices) -> final_variables.Difference | None:
         """The first variable that has something else at the end."""
-        sums = [self.trials.known[it].sums if it in self.trials.known else () for it in (Choices(), choices)]
+        both = (Choices(), choices)
+        sums = [dict(self.trials.known[it].sums) if it in self.trials.known else {} for it in both]
         is_told = len(sums[0]) == len(sums[1]) == self.trials.nodes and not self.is_silent
-        if not self.variables or (is_told and sums[0] == sums[1]):
+        ranks = [it for it in range(self.trials.nodes) if not is_told or sums[0].get(it) != sums[1].get(it)]
+        if not self.variables or not ranks:
             return None
-        return final_variables.difference(self.variables, self.memories(Choices()), self.memories(choices))
+        if is_told:
+            for rank in ranks:
+                told = [final_variables.told(it[rank], self.variables) for it in sums if rank in it]
+                if len(told) < len(sums) or None in told:
+                    break
+                found = final_variables.difference(self.variables, *({rank: it} for it in told if it is not None))
+                if found is not None:
+                    return found
+            else:
+                return None
+        return final_variables.difference(self.variables, *(self.memories(it, ranks) for it in both))
 
     def base(self) -> Ending:
         """What the build that takes choices comes to where none is made. Messages stay in the machine where there is no room for them."""
@@ -250,6 +285,7 @@ class Portable:
             self.fresh()
             self.other_nodes()
             return
+        self.begin_others()
         if contested.first is not None:
             self.pairs(Choices())
         self.exposed()
@@ -260,6 +296,23 @@ class Portable:
             self.addresses()
             self.alone()
         self.other_nodes()
+
+    def begin_others(self) -> None:
+        """Begins the runs that depend on nothing but the calls of the run as it is."""
+        if self.trials.room and self.made(SEND) and self.has(*QUEUE):
+            tried, _ = self.orders()
+            if not self.is_silent:
+                self.trials.unsummed.update(it for it in tried[MOST_NOTED:] if it.order != NUMBERED)
+            self.trials.begin_all(tried, self.has(*ASKING))
+        if self.trials.room and any(it.has_unbuffered for it in self.log) and self.has(*CALLS):
+            self.trials.begin_all([Choices(unbuffered=WATCHED), *TIMES])
+            if "bsp_ranges" not in self.code.names and self.subject.options.sources:
+                self.builds.begin(*LOOKING)
+                self.with_values()
+                with contextlib.suppress(Refused):
+                    self.looking, _ = self.builds.get(self.subject, self.trials.ticks, *LOOKING)
+                    self.looking.begin_all([Choices()], logged=[Choices()])
+        self.with_values()
 
     def tried(self, what: str, look: Callable[[], None]) -> None:
         """Looks for something where there is room for what is kept."""
@@ -349,6 +402,7 @@ class Portable:
                     self.verdict.notes.append(f"for information: {line}: areas belong together by their order")
                     return
 
+    @functools.lru_cache(maxsize=1)
     def orders(self) -> tuple[list[Choices], str]:
         """The orders of messages that are tried, and their name."""
         most, tries = max((step.most_sent() for step in self.log), default=0), self.subject.options.tries
@@ -378,7 +432,7 @@ class Portable:
                 break
         else:
             self.verdict.tried += [name] if tried else []
-            self.note_variables(*tried[:3], *(it for it in tried[3:] if it.order == NUMBERED))
+            self.note_variables(*tried[:MOST_NOTED], *(it for it in tried[MOST_NOTED:] if it.order == NUMBERED))
             self.note_sums(tried)
         if asks:
             self.contested_in(tried)
@@ -451,13 +505,9 @@ class Portable:
         if not self.subject.options.sources:
             self.leave_out(f"not tried: {ACCESSES}, which takes bspcc --portable=accesses")
             return None
-        try:
-            trials, _ = self.builds.get(self.trials.ticks, "--portable=accesses", "-Og")
-        except Refused:
+        if self.looking is None:
             self.leave_out(f"not tried: {ACCESSES}, for which the program was not compiled")
-            return None
-        trials.room = trials.room and self.trials.room
-        return trials
+        return self.looking
 
     def accesses(self) -> bool:
         """What ranks read and write themselves where an unbuffered call has the same bytes. Answers whether that was found."""
@@ -520,10 +570,8 @@ class Portable:
                 self.find(self.findings().stack(self.trials, choices, other.difference))
             if other is not None:
                 return False
-        builds = [self.builds.get(self.trials.ticks, *options_for(it)) for it in VALUES] if self.subject.options.sources else []
-        for trials, _ in builds:
-            trials.room = trials.room and self.trials.room
-        for value, (trials, said), ending in zip(VALUES, builds, run_each([it for it, _ in builds])):
+        for value, (trials, said) in zip(VALUES, self.with_values()):
+            ending = trials.run(Choices())
             if ending != self.ended:
                 self.find(self.findings().stack(trials, Choices(), parted(self.ended, ending), said, value))
                 return False
@@ -531,12 +579,21 @@ class Portable:
         self.note_variables(*(patterns if self.is_rare else patterns[:1]))
         return True
 
+    def with_values(self) -> list[tuple[Trials, list[str]]]:
+        """Builds in which GCC gives variables of functions values, with what was said of them, whose runs are begun."""
+        if self.valued is None:
+            self.valued = [self.builds.get(self.subject, self.trials.ticks, *options_for(it)) for it in VALUES] if self.subject.options.sources else []
+            for trials, _ in self.valued:
+                trials.room = trials.room and self.trials.room
+                trials.begin_all([Choices()])
+        return self.valued
+
     def other_nodes(self) -> None:
         """The program on one node less and one more, for information."""
         told = []
-        for nodes, done in self.on_other_nodes:
+        for nodes, run in self.first.on_other_nodes:
             try:
-                ending = ending_of(done, self.subject.mark)
+                ending = ending_of(run.result(), self.subject.mark)
             except Refused:
                 continue
             if MORE_NODES not in ending.output:
@@ -553,8 +610,8 @@ def options_for(value: str) -> list[str]:
 class Builds:
     """Builds of a program in C, which are made beside one another and beside runs."""
 
-    def __init__(self, subject: Subject) -> None:
-        self.subject, self.pool = subject, concurrent.futures.ThreadPoolExecutor(MOST_BUILDS)
+    def __init__(self, options: argparse.Namespace, folder: pathlib.Path) -> None:
+        self.options, self.folder, self.pool = options, folder, concurrent.futures.ThreadPoolExecutor(MOST_BUILDS)
         self.made: dict[tuple[str, ...], concurrent.futures.Future[tuple[bytes, list[str]]]] = {}
 
     def __enter__(self) -> Builds:
@@ -568,18 +625,24 @@ class Builds:
     def begin(self, *options: str) -> concurrent.futures.Future[tuple[bytes, list[str]]]:
         """Begins a build with these options."""
         if options not in self.made:
-            target = self.subject.folder / f"portable{len(self.made)}.elf"
+            target = self.folder / f"portable{len(self.made)}.elf"
             self.made[options] = self.pool.submit(self._build, target, options)
         return self.made[options]
 
-    def get(self, ticks: int, *options: str) -> tuple[Trials, list[str]]:
-        """A build that takes choices, and what was said of it."""
-        content, said = self.begin(*options).result()
-        return Trials(self.subject, content, read_elf(content), ticks), said
+    def get(self, subject: Subject, ticks: int, *options: str) -> tuple[Trials, list[str]]:
+        """A build that takes choices, and what was said of it. If there is none of the sources as they are, that is told."""
+        try:
+            content, said = self.begin(*options).result()
+        except Refused:
+            if not options:
+                compiled(self.options, self.folder / "portable.elf", "--portable")
+            raise
+        content = with_records(content, subject.mark)
+        return Trials(subject, content, read_elf(content), ticks), said
 
     def _build(self, target: pathlib.Path, options: tuple[str, ...]) -> tuple[bytes, list[str]]:
-        said = compiled(self.subject.options, target, "--portable", *options, is_told=not options)
-        return with_records(content_of(target, MOST_PROGRAM), self.subject.mark), said
+        said = compiled(self.options, target, "--portable", *options, is_told=False)
+        return content_of(target, MOST_PROGRAM), said
 
 
 def with_records(content: bytes, mark: bytes) -> bytes:
@@ -587,34 +650,38 @@ def with_records(content: bytes, mark: bytes) -> bytes:
     return output_records.settings_in(content, output_records.RECORDS | output_records.WRITES_FILES, 0, mark) if mark else content
 
 
-def verdict(job: Job, folder: pathlib.Path, accepted: Accepted | None = None) -> Verdict | None:
+def verdict(job: Job, folder: pathlib.Path, builds: Builds, accepted: Accepted | None = None) -> Verdict | None:
     """Tries a program whose run as a job has ended well, and answers what was found and what was tried; nothing where it does not end well by
     itself. Pairs of lines that are found are noted among those that are accepted."""
     options, mark = job.options, job.mark if job.options.out is not None else b""
     content = with_records(content_of(folder / "program.elf" if options.sources else options.program, MOST_PROGRAM), mark)
     image = folder / "plain.elf"
     image.write_bytes(content)
-    subject = Subject(options, job.program, read_elf(content), [str(image), *job.settings[1:]], folder, mark)
-    with Builds(subject) as builds:
+    with emulator.Runs() as runs:
+        subject = Subject(options, job.program, read_elf(content), [str(image), *job.settings[1:]], folder, mark, runs)
         if options.sources:
             builds.begin()
         show("bsprun: looking for contested bytes")
         file = folder / "contested.csv"
-        ended = subject.run(file)
+        plain = subject.begin(file)
+        # A run that was made before has told how many instructions it has.
+        work = getattr(options, "work", 0) or ending_of(plain.result(), mark).ticks
+        trials = builds.get(subject, work)[0] if options.sources else Trials(subject, content, subject.code, work)
+        first = FirstRuns(subject, trials)
+        ended = ending_of(plain.result(), mark)
         if ended.outcome != "ended" and OWN_STATUS not in ended.output:
             return None
-        trials = builds.get(ended.ticks)[0] if options.sources else Trials(subject, content, subject.code, ended.ticks)
         # Of these the first is told at most. Where there is one, the build that takes choices tells all of them.
         contested = contested_bytes.read(file, trials.nodes, ended.last, most=1)
-        portable = Portable(builds, trials, ended, contested, accepted or Accepted(None, None))
+        portable = Portable(first, builds, ended, contested, accepted or Accepted(None, None))
         portable.look()
         show("")
         return portable.verdict
 
 
-def is_portable(job: Job, folder: pathlib.Path, accepted: Accepted) -> bool:
+def is_portable(job: Job, folder: pathlib.Path, builds: Builds, accepted: Accepted) -> bool:
     """Tells the verdict, and writes the pairs that were found where that is asked for; answers whether nothing was found."""
-    found = verdict(job, folder, accepted)
+    found = verdict(job, folder, builds, accepted)
     if found is None:
         tell(["bsprun: not tried: other choices, because the program itself fails"])
         return True

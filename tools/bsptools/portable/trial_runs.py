@@ -58,7 +58,8 @@ class Ending:
 
 class Subject(NamedTuple):
     """A program that is tried: what the command line says, the words that start the emulator, what is known of its code, the settings of
-    its run, a folder for images, and what stands before the records of files that it writes; nothing where it writes none."""
+    its run, a folder for images, what stands before the records of files that it writes, nothing where it writes none, and what makes runs
+    beside one another."""
 
     options: argparse.Namespace
     program: list[str]
@@ -66,6 +67,7 @@ class Subject(NamedTuple):
     settings: list[str]
     folder: pathlib.Path
     mark: bytes
+    runs: emulator.Runs
 
     @property
     def log_mark(self) -> bytes:
@@ -77,11 +79,10 @@ class Subject(NamedTuple):
         """The most instructions of a node in the run as it is."""
         return int(self.settings[self.settings.index("--limit") + 1])
 
-    def run(self, file: pathlib.Path) -> Ending:
-        """The program as it is, which writes what is contested into a file."""
+    def begin(self, file: pathlib.Path) -> emulator.Run:
+        """Begins a run of the program as it is, which writes what is contested into a file."""
         workers = ["--workers", str(self.options.workers)]
-        command = [*self.program, "run", *self.settings, *workers, "--report", "--contested", str(file)]
-        return ending_of(emulator.run(command), self.mark)
+        return self.runs.begin([*self.program, "run", *self.settings, *workers, "--report", "--contested", str(file)])
 
     def command(self, nodes: int, limit: int) -> list[str]:
         """What runs the program as it is, on some number of nodes and with another limit."""
@@ -129,6 +130,14 @@ class Stop(NamedTuple):
     tag: bytes = b""
 
 
+class Begun(NamedTuple):
+    """A run that was begun, the file into which it writes what is contested, if it does, and whether it is logged."""
+
+    run: emulator.Run
+    file: pathlib.Path | None
+    is_logged: bool
+
+
 class Trials:
     """Runs of a build of the program under choices. `ticks` is no fewer than the instructions of a node in the run as it is."""
 
@@ -138,13 +147,15 @@ class Trials:
         self.most_memory = limits.of(subject.options.large).memory
         self.memory = min(subject.options.memory + max(code.need - subject.code.need, 0), self.most_memory - ROOM)
         self.room = ROOM if code.need <= self.memory else 0
+        self.begun: dict[Choices, list[Begun]] = {}
         self.known: dict[Choices, Ending] = {}
         self.contested: dict[Choices, contested_bytes.Found] = {}
         self.logs: dict[Choices, list[Superstep]] = {}
         # The runs that found no room for what is kept.
         self.roomless: set[Choices] = set()
-        # Where the variables lie of which sums are told.
+        # Where the variables lie of which sums are told, and the runs in which nobody asks for them.
         self.summed: tuple[Cut, ...] = ()
+        self.unsummed: set[Choices] = set()
 
     @property
     def nodes(self) -> int:
@@ -159,7 +170,7 @@ class Trials:
     def _settings_for(self, choices: Choices, is_told: bool) -> list[str]:
         """The settings of a run, of which the image is written. It has records, unless it is one of the debugger, which parts none."""
         image = self.subject.folder / f"chosen{next(IMAGES)}.elf"
-        if is_told and not choices.cuts:
+        if is_told and not choices.cuts and choices not in self.unsummed:
             choices = choices._replace(is_summed=bool(self.summed), cuts=self.summed)
         content = image_with(self.content, self.with_memory(choices))
         image.write_bytes(with_log(content, self.subject.log_mark, bool(self.subject.mark)) if is_told else content)
@@ -175,6 +186,10 @@ class Trials:
     def go_without_room(self) -> None:
         """Leaves messages and calls to the machine, which has room for them."""
         self.room = 0
+        for begun in self.begun.values():
+            for it in begun:
+                it.run.cancel()
+        self.begun.clear()
         self.roomless.clear()
         self.known.clear()
         self.contested.clear()
@@ -187,24 +202,28 @@ class Trials:
     def run_all(self, tried: Sequence[Choices], is_contested: bool = False) -> list[Ending]:
         """What runs come to, which are made side by side; also what is contested in each, if that is asked for."""
         self.begin_all(tried, is_contested)
+        for it in tried:
+            self.end(it)
         if not self.roomless.isdisjoint(tried):
             raise NoRoom
         return [self.known[it] for it in tried]
 
-    def begin_all(
-        self, tried: Sequence[Choices], is_contested: bool = False, logged: Sequence[Choices] = (), beside: Sequence[list[str]] = ()
-    ) -> list[subprocess.CompletedProcess[bytes]]:
-        """Makes those of these runs that are not known, side by side, and answers what other commands come to that are made beside them. Some
-        are logged."""
-        left = [it for it in dict.fromkeys(tried) if it not in self.roomless and self.lacks(it, is_contested, it in logged)]
-        if left or beside:
-            show("bsprun: trying other choices")
-        files = [self.subject.folder / f"contested{at}.csv" if is_contested else None for at in range(len(left))]
-        commands = [self.command(it._replace(is_logged=it in logged), file) for it, file in zip(left, files)]
-        done = emulator.run_all([*commands, *beside]) if left or beside else []
-        for it, file, one in zip(left, files, done):
-            self.take(it, one, file, it in logged)
-        return done[len(left) :]
+    def begin_all(self, tried: Sequence[Choices], is_contested: bool = False, logged: Sequence[Choices] = ()) -> None:
+        """Begins those of these runs that are neither known nor begun. Some are logged."""
+        for it in dict.fromkeys(tried):
+            is_logged = it in logged
+            if it in self.roomless or not self.lacks(it, is_contested, is_logged):
+                continue
+            file = self.subject.folder / f"contested{next(IMAGES)}.csv" if is_contested else None
+            run = self.subject.runs.begin(self.command(it._replace(is_logged=is_logged), file))
+            self.begun.setdefault(it, []).append(Begun(run, file, is_logged))
+
+    def end(self, choices: Choices) -> None:
+        """Waits for a run that was begun."""
+        for run, file, is_logged in self.begun.pop(choices, ()):
+            if not run.done():
+                show("bsprun: trying other choices")
+            self.take(choices, run.result(), file, is_logged)
 
     def take(self, choices: Choices, done: subprocess.CompletedProcess[bytes], file: pathlib.Path | None = None, is_logged: bool = False) -> None:
         """Takes down what a run came to."""
@@ -220,8 +239,11 @@ class Trials:
             self.contested[choices] = contested_bytes.read(file, self.nodes, ending.last)
 
     def lacks(self, choices: Choices, is_contested: bool, is_logged: bool) -> bool:
-        """Whether something is not known of a run."""
-        return choices not in self.known or (is_contested and choices not in self.contested) or (is_logged and choices not in self.logs)
+        """Whether something is not known of a run, and none was begun that tells it."""
+        begun = self.begun.get(choices, ())
+        is_known = choices in self.known or bool(begun)
+        is_contested = is_contested and choices not in self.contested and all(it.file is None for it in begun)
+        return not is_known or is_contested or (is_logged and choices not in self.logs and not any(it.is_logged for it in begun))
 
     def command(self, choices: Choices, file: pathlib.Path | None = None) -> list[str]:
         """What makes a run, which also writes what is contested into a file where one is given."""
@@ -232,6 +254,7 @@ class Trials:
     def log(self, choices: Choices) -> list[Superstep]:
         """The calls of a run."""
         self.begin_all([choices], logged=[choices])
+        self.end(choices)
         if choices in self.roomless:
             raise NoRoom
         return self.logs[choices]
@@ -254,13 +277,6 @@ class Trials:
             most *= 2
         index = least(most // 2, most, lambda it: at(Point(superstep, rank, it))) - 1
         return choices._replace(until=Point(superstep, rank, index))
-
-
-def run_each(builds: Sequence[Trials]) -> list[Ending]:
-    """What builds come to where nothing is chosen, all of which are run side by side."""
-    for it, one in zip(builds, emulator.run_all([it.command(Choices()) for it in builds])):
-        it.take(Choices(), one)
-    return [it.run(Choices()) for it in builds]
 
 
 def least(low: int, high: int, holds: Callable[[int], bool]) -> int:

@@ -58,7 +58,7 @@ def optimized(options: argparse.Namespace, names: list[str]) -> list[str]:
 
 
 def compiled(options: argparse.Namespace, target: pathlib.Path, *more: str, is_told: bool = True) -> list[str]:
-    """Makes an executable of the sources, with more options for bspcc. Answers what was said of them, and tells it where they cannot be."""
+    """Makes an executable of the sources, with more options for bspcc. Answers what was said of them, and tells it if they cannot be."""
     words, environment = command(options, target, "-g", *looks(options), *more)
     done = children.call(words, stdout=subprocess.PIPE, stderr=subprocess.STDOUT, env=environment)
     names = [os.path.abspath(it) for it in options.sources]

@@ -64,7 +64,7 @@ class Job(NamedTuple):
         return Replays([*self.program, "debug", *self.settings], self.options.memory, self.options.nodes)
 
     def set(self, flags: int, fill: int | None, is_timed: bool = True) -> None:
-        """Writes the image with settings for the program's library, with a byte of fresh memory where there is one. Runs that are compared
+        """Writes the image with settings for the program's library, with a byte of fresh memory if there is one. Runs that are compared
         read no time, which is that of one run."""
         flags |= output_records.RECORDS | (output_records.WRITES_FILES if self.options.out is not None else 0)
         flags |= output_records.FILLED if fill is not None else 0
@@ -172,14 +172,14 @@ def expect_choices(name: str, content: bytes) -> None:
 
 
 def given_input(options: argparse.Namespace, content: bytes, tool: str) -> bytes | None:
-    """The input, where there is any. What is typed to bspgdb is for gdb."""
+    """The input, if there is any. What is typed to bspgdb is for gdb."""
     if options.input is not None:
         return content_of(options.input, limits.of(options.large).given)
     return standard_input(options.program, content, limits.of(options.large).given) if tool == "bsprun" else None
 
 
 def with_block(options: argparse.Namespace, content: bytes, given: bytes | None) -> bytes | None:
-    """An input, with arguments and files in front of it where there are any."""
+    """An input, with arguments and files in front of it if there are any."""
     if options.args or options.file or options.files or options.found:
         if MAGIC not in content:
             raise Refused(f"{options.program} takes no arguments and no files: it was not built by this bspcc")

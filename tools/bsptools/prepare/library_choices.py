@@ -26,7 +26,7 @@ SOURCES, TARGETS = range(2)
 
 
 class Point(NamedTuple):
-    """A place in a run where something is chosen: a superstep, a rank, and which of the rank's choices there, each from 0 on."""
+    """A place in a run if something is chosen: a superstep, a rank, and which of the rank's choices there, each from 0 on."""
 
     superstep: int
     rank: int

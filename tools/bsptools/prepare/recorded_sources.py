@@ -48,7 +48,7 @@ class Unit(NamedTuple):
 
 
 def units_of(content: bytes) -> list[Unit]:
-    """What an executable says of its sources; nothing where it says nothing, or what cannot be read."""
+    """What an executable says of its sources; nothing if it says nothing, or what cannot be read."""
     fields = [os.fsdecode(it) for it in elf.section(content, SECTION).split(b"\0")]
     found: list[Unit] = []
     while len(fields) > 4 and fields[0] in (SOURCE, LINKED) and fields[1].isdecimal() and len(found) < MOST_UNITS:
@@ -65,7 +65,7 @@ def sources_of(units: list[Unit]) -> list[Unit]:
 
 
 def misfit(units: list[Unit]) -> str:
-    """Why a program cannot be built again of its sources; nothing where it may."""
+    """Why a program cannot be built again of its sources; nothing if it may."""
     for it in sources_of(units):
         # GCC takes what has another name for something else than a source.
         if not it.path.endswith(SOURCES):

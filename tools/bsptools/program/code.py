@@ -97,7 +97,7 @@ class Code:
         return [FLOAT] * self.is_float + [ATOMIC] * self.is_atomic
 
     def know_names(self) -> Code:
-        """Reads what an ELF file has for debuggers. That takes a while, and is wanted only where something is told of a run."""
+        """Reads what an ELF file has for debuggers. That takes a while, and is wanted only if something is told of a run."""
         if self.content and self.debug is None:
             self.debug = elf.Debug(self.content)
             for it in self.debug.symbols:
@@ -206,7 +206,7 @@ def listing(stored: bytes, extensions: Iterable[str] = ()) -> Iterator[tuple[int
 
 
 def name_with(extension: str, code: bytes) -> str:
-    """The name that code has with the option for this extension; nothing where it has none."""
+    """The name that code has with the option for this extension; nothing if it has none."""
     return next((name for _, _, name, _ in listing(code, [extension]) if not name.startswith(".")), "")
 
 

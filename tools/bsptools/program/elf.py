@@ -51,7 +51,7 @@ def segments(content: bytes) -> Iterator[tuple[int, memoryview, int]]:
 
 
 def misfit(content: bytes) -> str:
-    """Why an ELF file can be no program of nodes, whatever else it has: nothing, where its header speaks of one. A broken file, or one that is
+    """Why an ELF file can be no program of nodes, whatever else it has: nothing, if its header speaks of one. A broken file, or one that is
     none, is the emulator's to refuse."""
     if not content.startswith(MAGIC) or len(content) < HEADER:
         return ""
@@ -139,7 +139,7 @@ class Debug:
         return []
 
     def pieces(self) -> list[tuple[int, int, str, int]]:
-        """Start, end, path and line of each piece of code of which the line is known, by their addresses. Where a function was put into
+        """Start, end, path and line of each piece of code of which the line is known, by their addresses. If a function was put into
         another, it is the line of the inner one. Units whose source is not here, as those of a C library, are left out."""
         found: list[tuple[int, int, str, int]] = []
         with contextlib.suppress(Exception), memory_bound.at_most(MOST_MEMORY):
@@ -183,7 +183,7 @@ class Debug:
 
 
 def row(program: Any, address: int) -> tuple[int, int]:
-    """File and line of an address in a table of lines; line 0 where there is none."""
+    """File and line of an address in a table of lines; line 0 if there is none."""
     states = [entry.state for entry in program.get_entries() if entry.state]
     for now, then in zip(states, states[1:]):
         if not now.end_sequence and now.address <= address < then.address:

@@ -25,7 +25,7 @@ SP, A0, A7 = 2, 10, 17
 
 
 class Stored(NamedTuple):
-    """The bytes that an instruction loads or stores; none, at any address, where it has access to nothing."""
+    """The bytes that an instruction loads or stores; none, at any address, if it has access to nothing."""
 
     addr: int
     length: int
@@ -38,7 +38,7 @@ NOTHING = Stored(0, 0)
 
 
 def stored(code: bytes, x: Tuple[int, ...]) -> Optional[Stored]:
-    """Where an instruction stores, with these registers; nothing where it may change what stands elsewhere, as some calls do.
+    """Where an instruction stores, with these registers; nothing if it may change what stands elsewhere, as some calls do.
 
     What is no instruction stores nothing, as it ends in a fault.
     """

@@ -20,7 +20,7 @@ def size_text(size: int) -> str:
 
 
 def largest(code: Code) -> str:
-    """The largest variables of a program, with their bytes, or nothing where it names none."""
+    """The largest variables of a program, with their bytes, or nothing if it names none."""
     sizes = sorted(((size, name) for _, size, name in code.know_names().variables if size >= LEAST_NAMED), reverse=True)
     more = ", .." if len(sizes) > MOST_NAMED else ""
     return ", ".join(f"{name} of {size} bytes" for size, name in sizes[:MOST_NAMED]) + more

@@ -68,7 +68,7 @@ def kind_of(entry: Any) -> Any:
 
 
 def attributed(entry: Any, attribute: str) -> Any:
-    """What an entry names, or where it is declared; None where it names nothing."""
+    """What an entry names, or where it is declared; None if it names nothing."""
     for _ in range(MOST_STEPS):
         if attribute in entry.attributes:
             return entry.get_DIE_from_attribute(attribute)
@@ -80,7 +80,7 @@ def attributed(entry: Any, attribute: str) -> Any:
 
 
 def size_of(kind: Any) -> int:
-    """How many bytes a type has; 0 where that is not known."""
+    """How many bytes a type has; 0 if that is not known."""
     if kind is None:
         return 0
     if kind.tag == ARRAY:
@@ -135,7 +135,7 @@ def member_at(kind: Any, offset: int) -> Any:
 
 
 def element_of(kind: Any) -> Element | None:
-    """What a variable of this type has one or many of; None where that is not known."""
+    """What a variable of this type has one or many of; None if that is not known."""
     for _ in range(MOST_TYPES):
         if kind is None or kind.tag != ARRAY:
             break
@@ -212,7 +212,7 @@ class Variables:
         return self._globals
 
     def locals_of(self, frame: Frame) -> list[Found]:
-        """Those of a function that is called, and of what was put into it where it is."""
+        """Those of a function that is called, and of what was put into it if it is."""
         found: list[Found] = []
         with contextlib.suppress(Exception), memory_bound.at_most(MOST_MEMORY):
             unit = next((it for it in self.units if self._debug.has(it.get_top_DIE(), frame.pc)), None)
@@ -237,7 +237,7 @@ class Variables:
                     yield Found(name(it), function, 0, 0, kind, place[1])
 
     def _expression(self, variable: Any, pc: int) -> list[int]:
-        """The location of a variable where its function is at an address; nothing where it has none there."""
+        """The location of a variable where its function is at an address; nothing if it has none there."""
         attribute = variable.attributes.get("DW_AT_location")
         if attribute is None:
             return []

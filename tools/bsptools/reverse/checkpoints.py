@@ -52,7 +52,7 @@ class Checkpoints:
         return not self.is_refused and time.monotonic() - self._since > EVERY
 
     def mark(self) -> Optional[int]:
-        """Keeps the state as it is. Answers its number, of which `forget` is to be told at some time; none where nothing can be kept."""
+        """Keeps the state as it is. Answers its number, of which `forget` is to be told at some time; none if nothing can be kept."""
         self._since = time.monotonic()
         reply = None if self.is_refused else self._session.ask("keep")
         if reply is None or not reply.is_done:

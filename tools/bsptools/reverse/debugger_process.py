@@ -67,7 +67,7 @@ class Process(abc.ABC):
 
     @property
     def first_running(self) -> int:
-        """The lowest rank that runs; where none does, how many there are."""
+        """The lowest rank that runs; if none does, how many there are."""
         return next((node.rank for node in self.nodes() if node.runs), self.ranks)
 
     @property
@@ -96,7 +96,7 @@ class Process(abc.ABC):
         return self._session.ask("costs").accepted()
 
     def output(self, start: int = 0) -> bytes:
-        """What was written in the supersteps that are over, from this byte on; nothing where there are fewer."""
+        """What was written in the supersteps that are over, from this byte on; nothing if there are fewer."""
         self._make_room()
         reply = self._session.ask(f"output {start}")
         return reply.data[:-1] if reply.is_done else b""
@@ -174,7 +174,7 @@ class Process(abc.ABC):
         return self._session.is_answered(0)
 
     def arrive(self, must_break_off: Asked = never) -> Arrival:
-        """Waits for it. Where that is broken off, it can be waited for again."""
+        """Waits for it. If that is broken off, it can be waited for again."""
         return self._arrive(self._reply(must_break_off), self._points)
 
     # Parts of these.
@@ -194,7 +194,7 @@ class Process(abc.ABC):
         return arrival
 
     def _forget_up_to(self, rank: int, points: Points) -> None:
-        """Drops what a `go` that stopped at a rank may have changed: where it has made no turn, the nodes up to this one that ran."""
+        """Drops what a `go` that stopped at a rank may have changed: if it has made no turn, the nodes up to this one that ran."""
         if self._superstep is None or self._superstep + 1 not in points:
             self._nodes.clear()
             self._superstep = None

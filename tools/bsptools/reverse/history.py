@@ -43,7 +43,7 @@ class Goal(NamedTuple):
 
 
 class History:
-    """Takes a machine back. Where that is broken off, the machine stands where it stood."""
+    """Takes a machine back. If that is broken off, the machine stands where it stood."""
 
     def __init__(self, machine: Machine, must_break_off: Asked) -> None:
         self._machine = machine
@@ -51,7 +51,7 @@ class History:
         self._recorded = LEAST_RECORDED
 
     def step_back(self, rank: int) -> bool:
-        """A rank goes an instruction back. Where it has made none in this superstep, all go back over the turn, and then this rank.
+        """A rank goes an instruction back. If it has made none in this superstep, all go back over the turn, and then this rank.
         Answers whether there was one."""
         if self._machine.recall(rank):
             return True
@@ -73,7 +73,7 @@ class History:
         return self._last(goal, self._machine.place())
 
     def go_to(self, hit: Optional[Hit], alone: Optional[int]) -> None:
-        """Goes back to a place, or to the start; one rank alone, where it is said."""
+        """Goes back to a place, or to the start; one rank alone, if it is said."""
         self._become(self._at(self._place_of(hit or Hit(0, BEGIN, 0), alone, self._machine.place())))
 
     def _become(self, other: Machine) -> None:
@@ -150,7 +150,7 @@ class History:
         return None
 
     def _last_ticks(self, goal: Goal, place: Place, rank: int, start: int, end: int) -> Optional[int]:
-        """The same, by one hit after another. Where there are many, they are looked for in the second half of what is left first."""
+        """The same, by one hit after another. If there are many, they are looked for in the second half of what is left first."""
         while start < end:
             with contextlib.closing(self._at(place._replace(ticks=_with(place.ticks, rank, start)))) as machine:
                 ticks = [node.ticks for node in islice(hits_of(machine, rank, end, goal, self._must_break_off), MOST_STOPS)]

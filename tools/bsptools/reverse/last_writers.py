@@ -114,7 +114,7 @@ class Search:
 
     @contextlib.contextmanager
     def _at(self, superstep: int, ticks: int = 0) -> Iterator[Machine]:
-        """A machine where a superstep begins, but this rank where it has made so many instructions."""
+        """A machine where a superstep begins, but this rank if it has made so many instructions."""
         all_ticks = [0] * self._machine.ranks
         all_ticks[self._rank] = ticks
         with contextlib.closing(self._machine.at(Place(superstep, tuple(all_ticks), False), self._must_break_off)) as machine:
@@ -170,7 +170,7 @@ class Search:
         return found
 
     def _areas(self, superstep: int, asked: Dict[int, List[Made]]) -> List[Areas]:
-        """The registrations in a superstep, where there is a put into this rank's memory from then on."""
+        """The registrations in a superstep, if there is a put into this rank's memory from then on."""
         is_put = any(it.call.number in PUTS and it.call.operand("pid") == self._rank for made in asked.values() for it in made)
         return self.requests.areas(superstep) if is_put else [Areas() for _ in range(self._machine.ranks)]
 

@@ -45,7 +45,7 @@ def _float(name: str, pattern: int) -> str:
 
 
 def extension_wanted(state: str, code: bytes) -> List[str]:
-    """What a rank wants that nodes do not have, where it has stopped in this state before this code: an extension, if any."""
+    """What a rank wants that nodes do not have, if it has stopped in this state before this code: an extension, if any."""
     if state == "fault IllegalInstruction":
         for option, missing in WANTED.items():
             name = name_with(option, first_code(code))
@@ -72,7 +72,7 @@ def words(names: Names, addr: int, data: bytes) -> List[str]:
 
 
 def text(data: bytes, is_cut: bool) -> str:
-    """A text in quotes, up to its end; with what follows it where that was not reached."""
+    """A text in quotes, up to its end; with what follows it if that was not reached."""
     content, end, _ = data.partition(b"\0")
     shown = content.decode("latin-1").encode("unicode_escape").decode().replace('"', '\\"')
     return f'"{shown}"' + ("" if end or not is_cut else "...")

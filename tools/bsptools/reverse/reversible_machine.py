@@ -70,7 +70,7 @@ class Machine(Process):
         return self._session.room < RESERVE
 
     def go(self, points: Iterable[Point], must_break_off: Asked = never) -> Arrival:
-        """Goes on to the first of these points, or to the outcome. Where that is broken off, it stands where it stood."""
+        """Goes on to the first of these points, or to the outcome. If that is broken off, it stands where it stood."""
         start = Place(self.superstep, (0,) * self.ranks, False) if self._is_at_begin else self.place()
         try:
             arrival = self.advance(points, must_break_off)
@@ -167,7 +167,7 @@ class Machine(Process):
         return other
 
     def _lent(self, place: Place) -> Optional[Machine]:
-        """A machine with this one's process, where that has kept a state before a place. When it is closed, the process comes back to where
+        """A machine with this one's process, if that has kept a state before a place. When it is closed, the process comes back to where
         it stands now."""
         if self.is_lost or self._nearest_kept(place) is None:
             return None
@@ -235,7 +235,7 @@ class Machine(Process):
             self._kept.keep(place, self._is_at_begin)
 
     def nearest(self, place: Place) -> Optional[State]:
-        """Where it stands, or the last state that is kept before a place: whichever is nearer; nothing where both are beyond."""
+        """Where it stands, or the last state that is kept before a place: whichever is nearer; nothing if both are beyond."""
         kept = self._kept.nearest(place)
         if self.outcome is not None:
             return kept

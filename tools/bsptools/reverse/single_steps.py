@@ -53,7 +53,7 @@ class SingleSteps:
         return [_message_of(line) for line in self._machine.queue(self._rank)[1:]]
 
     def steps(self, count: int) -> Iterator[Step]:
-        """The instructions that store something, of so many, or of fewer where the rank stops by itself."""
+        """The instructions that store something, of so many, or of fewer if the rank stops by itself."""
         node = self._machine.node(self._rank)
         before: Union[Node, Shown] = node
         while count > 0 and before.runs:

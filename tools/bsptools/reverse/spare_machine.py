@@ -1,6 +1,6 @@
 """A second machine, which follows the first one and keeps checkpoints.
 
-It keeps states on its way, so that the first one is brought back to any place without the whole run. Where the emulator keeps none, it stands
+It keeps states on its way, so that the first one is brought back to any place without the whole run. If the emulator keeps none, it stands
 where a superstep begins.
 """
 
@@ -80,7 +80,7 @@ class Spare(Generic[Machine]):
         self._machine, self._is_under_way = None, False
 
     def follow(self, superstep: int) -> None:
-        """Sends it on to where a superstep begins, or into that where it is there, if it is wanted. As long as it is under way, it is sent
+        """Sends it on to where a superstep begins, or into that if it is there, if it is wanted. As long as it is under way, it is sent
         no further."""
         if superstep != self._target:
             self._target, self._since = superstep, time.monotonic()

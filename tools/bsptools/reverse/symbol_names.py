@@ -66,7 +66,7 @@ class Names:
         return _NUMBER.fullmatch(text) is None
 
     def address(self, text: str) -> Optional[int]:
-        """The address that a number or a name tells, or a name and so many bytes behind it, as `table+4`; nothing where it tells none."""
+        """The address that a number or a name tells, or a name and so many bytes behind it, as `table+4`; nothing if it tells none."""
         if _NUMBER.fullmatch(text):
             value = int(text, 16 if text[1:2] in ("x", "X") else 10)
             return value if value <= MOST_ADDRESS else None
@@ -82,7 +82,7 @@ class Names:
         return sorted(it for it in {*self._labels, *(it.name for it in self._symbols)} if it.isprintable())
 
     def named(self, address: int) -> str:
-        """An address as a name and the bytes behind it; nothing where no name is known."""
+        """An address as a name and the bytes behind it; nothing if no name is known."""
         code = self.code
         at = bisect.bisect_right(self._symbols, (address, 1 << 33, ""))
         for it in reversed(self._symbols[:at]):

@@ -87,7 +87,7 @@ class PastTeller:
         return any(start <= addr < start + len(content) for start, content in self._names.code.segments)
 
     def _writer(self, search: Search, rank: int, writer: Writer, number: int) -> Tuple[str, str]:
-        """What is told of a writer, and the address of the instruction where that is the rank's own."""
+        """What is told of a writer, and the address of the instruction if that is the rank's own."""
         if isinstance(writer, Made):
             source = f" from rank {writer.call.operand('pid')}" if writer.call.number in GETS else ""
             text = f"{called(writer)}{source} by rank {writer.rank}, at the end of superstep {writer.superstep}"

@@ -64,7 +64,7 @@ def tell_of(job: Job, found: Report, parser: Parser, is_chosen: bool, are_offset
 
 def tell_summary(job: Job, found: Report) -> None:
     """Tells the summary, in which printing stands apart where the run is not too long to count it. A profile tells of it too, or is without it
-    where that is asked for."""
+    if that is asked for."""
     options = job.options
     steps = options.nodes * sum(it.costs["w"] for it in found.supersteps)
     printed = None

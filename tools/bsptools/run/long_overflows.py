@@ -75,8 +75,8 @@ def unescaped(text: str) -> str:
 
 
 class Beside:
-    """A build of a program's sources that notes where something does not fit into a `long`, and then a run of it. It goes on by itself but
-    for what there is to `take` from its file `number`. Where it cannot go on, it is over."""
+    """A build of a program's sources that notes if something does not fit into a `long`, and then a run of it. It goes on by itself but
+    for what there is to `take` from its file `number`. If it cannot go on, it is over."""
 
     def __init__(self, folder: pathlib.Path) -> None:
         self.image = folder / "long.elf"
@@ -139,7 +139,7 @@ class Beside:
                 self._end()
 
     def wait(self, seconds: float) -> None:
-        """Waits for its end behind a run that took so long: for as long again where it is being built, and half a second."""
+        """Waits for its end behind a run that took so long: for as long again if it is being built, and half a second."""
         now, begin, more = time.monotonic(), self.began, patience(MORE_SECONDS)
         whole = now - begin
         if self._options is not None and spare(self._options) <= 0:

@@ -34,9 +34,9 @@ class Reached(NamedTuple):
 
 
 def reached(replays: Replays, seconds: float, written: int, latest: float) -> Reached:
-    """The superstep that a run comes to in so many seconds, and later where it has to have written so many bytes, before a time of the clock.
+    """The superstep that a run comes to in so many seconds, and later if it has to have written so many bytes, before a time of the clock.
 
-    Short supersteps are gone through some at a time, which makes their steps slower, and saves a line and its reply for each. Where one of
+    Short supersteps are gone through some at a time, which makes their steps slower, and saves a line and its reply for each. If one of
     some takes long, they are gone through one by one.
     """
     superstep, began, count, is_far = 0, 0.0, 1, False
@@ -68,7 +68,7 @@ def one_by_one(replays: Replays, at: Reached, count: int, written: int, latest: 
 
 
 def has_written(session: Session, written: int) -> bool:
-    """Whether a run has written so many bytes: what comes from a byte on is refused where there are fewer."""
+    """Whether a run has written so many bytes: what comes from a byte on is refused if there are fewer."""
     return session.ask(f"output {written}").is_done
 
 

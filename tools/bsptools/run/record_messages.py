@@ -52,7 +52,7 @@ def listed(names: list[str]) -> str:
 
 
 def place_of(job: Job, found: Report, notes: list[Note], note: Note) -> str:
-    """Function and line at which a rank was when it made a note: the run is made again up to there. Nothing where that takes long, or no
+    """Function and line at which a rank was when it made a note: the run is made again up to there. Nothing if that takes long, or no
     line is known."""
     rank, superstep = note.rank, note.superstep
     entry = job.code.know_names().names.get("bsp_note")

@@ -20,7 +20,7 @@ ADVICE = "so values that do not fit a long of 32 bits are not looked for"
 
 
 class SecondBuild(NamedTuple):
-    """The words of a build with their environment; no words where there is nothing to look for. `why_not` says why it cannot be made."""
+    """The words of a build with their environment; no words if there is nothing to look for. `why_not` says why it cannot be made."""
 
     words: list[str]
     environment: dict[str, str]

@@ -37,7 +37,7 @@ def with_advice(job: Job, lines: list[str]) -> list[str]:
 
 
 def advice(job: Job) -> str:
-    """What to give where the stack of a job is too deep; nothing where that was not found."""
+    """What to give where the stack of a job is too deep; nothing if that was not found."""
     top, rest = job.code.names.get("__stack_top", 0), job.code.need - job.code.names.get("__stack_top", 0)
     most = (job.options.memory - rest) * 3 // 4 // UNIT * UNIT
     with contextlib.suppress(children.TooLate, Refused, OSError, subprocess.SubprocessError), children.within(MOST_SECONDS):
@@ -56,7 +56,7 @@ def to_whom(job: Job) -> str:
 
 
 def used_of(job: Job, room: int) -> int | None:
-    """How many bytes of a stack with so much room are used by the rank that uses most; nothing where that does not suffice, or nobody knows."""
+    """How many bytes of a stack with so much room are used by the rank that uses most; nothing if that does not suffice, or nobody knows."""
     with children.folder("bsprun") as folder:
         image = folder / "deep.elf"
         words = build_of(job, room, image)

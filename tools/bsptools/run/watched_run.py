@@ -44,7 +44,7 @@ MARK = f"\033[7m{PLAIN_MARK}\033[m"
 
 
 class Done(NamedTuple):
-    """How a run ended: its status, its report where it has one, what the emulator said, and the notes and files of its program. `seconds` is how
+    """How a run ended: its status, its report if it has one, what the emulator said, and the notes and files of its program. `seconds` is how
     long it took, `is_line_whole` whether its output has ended its last line, `has_null` whether that has what NULL points to, and `digest`
     that of its output and standard error, where it will be compared with those of other runs."""
 
@@ -138,7 +138,7 @@ class Outputs:
             self._give(is_error, piece)
 
     def end(self) -> report.Report | None:
-        """Writes what is left, but for the report, which is answered where there is one."""
+        """Writes what is left, but for the report, which is answered if there is one."""
         last = self.tail.take(self.marks.left())
         left = self.tail.left()
         parted = report.part(left)
@@ -201,7 +201,7 @@ def is_all_read(pipe: int) -> bool:
 
 
 class Watch:
-    """A run of a job, which the clock ends after so many seconds where it is given. What goes beside it is looked after."""
+    """A run of a job, which the clock ends after so many seconds if it is given. What goes beside it is looked after."""
 
     def __init__(self, job: Job, wall: float | None, beside: Beside, repeated: Repeated) -> None:
         self.job, self.wall, self.beside = job, wall, beside
@@ -216,7 +216,7 @@ class Watch:
         return time.monotonic() - self.start
 
     def run(self) -> Done:
-        """Runs it to its end. `Stopped` is raised where the clock ends it, and `Interrupted` where Ctrl-C does; what was written stands then."""
+        """Runs it to its end. `Stopped` is raised if the clock ends it, and `Interrupted` where Ctrl-C does; what was written stands then."""
         options = self.job.options
         words = [*self.job.program, "run", *self.job.settings, "--workers", str(options.workers), "--report"]
         if options.profile is None:

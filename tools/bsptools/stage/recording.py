@@ -231,7 +231,8 @@ def parts_of(job: Job) -> Iterator[Tuple[int, int]]:
 
 
 def record(job: Job, folder: pathlib.Path, points: List[int], room: Room) -> Dict[str, Any] | None:
-    """The record of a run; nothing of one that takes more instructions than there is room for, or has no profile."""
+    """The record of a run; nothing of one that takes more instructions than there is room for, whose profile and output take all of the room,
+    or that has no profile."""
     profile = folder / "profile.csv"
     words = [*job.program, "run", *job.settings, "--report", "--profile", str(profile)]
     limit = min(job.options.limit, max(1, room.steps // job.options.nodes))
@@ -245,15 +246,17 @@ def record(job: Job, folder: pathlib.Path, points: List[int], room: Room) -> Dic
         return None
     text = content_of(profile, MOST_PROFILE).decode()
     w = steps_of(text, job.options.nodes)
+    whole = {"profile": text, "outcome": report.outcome, "output": bytes(output[:MOST_OUTPUT]).hex()}
     recorder = Recorder(job, points, room)
     try:
+        recorder.count(whole)
+        if recorder.share >= 1:
+            return None
         recorder.record(w)
     finally:
         recorder.session.close()
     return {
-        "profile": text,
-        "outcome": report.outcome,
-        "output": bytes(output[:MOST_OUTPUT]).hex(),
+        **whole,
         "supersteps": recorder.supersteps,
         "places": recorder.places,
         "left": left_out(recorder, len(w)),

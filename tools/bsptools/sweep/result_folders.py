@@ -27,7 +27,7 @@ def expect_own(folder: pathlib.Path, why: str) -> None:
 
 
 def kept_in(path: str) -> pathlib.Path:
-    """The folder where results are kept, which is made where it is missing."""
+    """The folder where results are kept, which is made if it is missing."""
     folder = pathlib.Path(absolute(path))
     try:
         folder.parent.mkdir(parents=True, exist_ok=True)
@@ -43,7 +43,7 @@ def kept_in(path: str) -> pathlib.Path:
 
 
 def part(folder: pathlib.Path, *names: str) -> pathlib.Path:
-    """A folder in the results, and those above it up to there, which are made where they are missing. Links there are replaced."""
+    """A folder in the results, and those above it up to there, which are made if they are missing. Links there are replaced."""
     for name in ("", *names):
         folder = folder / name
         expect_own(folder, own_folders.make(folder))

@@ -44,7 +44,7 @@ class Place(NamedTuple):
         return os.path.lexists(self.file("failed", copy)) or self.found(copy) is not None
 
     def found(self, copy: str = MAIN) -> Record | None:
-        """What came of it; nothing where it was not made, or what is kept is not what was written."""
+        """What came of it; nothing if it was not made, or what is kept is not what was written."""
         record: Record | None = sealed_results.found(self.file("json", copy), self.folder.name)
         return record
 

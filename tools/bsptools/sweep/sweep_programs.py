@@ -40,7 +40,7 @@ class Program(NamedTuple):
 
 
 def programs(options: argparse.Namespace, folder: pathlib.Path) -> list[Program]:
-    """The programs that were named, each with each choice of its constants: images of those in C are kept among the results in a folder. Where
+    """The programs that were named, each with each choice of its constants: images of those in C are kept among the results in a folder. If
     none of them is compiled, that is refused."""
     names = [name for name, _ in options.define]
     choices = [tuple(zip(names, values)) for values in itertools.product(*(values for _, values in options.define))]

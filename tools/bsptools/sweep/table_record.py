@@ -106,7 +106,7 @@ def labelled(program: Program) -> str:
 
 
 def machine_tables(options: argparse.Namespace) -> Iterator[tuple[str, str]]:
-    """The tables in which machines of a sweep are looked for: by the name that they have here, and by where they are."""
+    """The tables in which machines of a sweep are looked for: by the name that they have here, and by if they are."""
     if options.machine:
         yield machines.TABLE.name, str(machines.TABLE)
         own = os.environ.get(machines.OWN)

@@ -48,7 +48,7 @@ ADVICE, UNSIGNED = "write int64_t or long long", "write uint64_t or unsigned lon
 
 
 class Value(NamedTuple):
-    """A statement, and what is told of its line: what it is, and what to write; nothing where that is the same elsewhere."""
+    """A statement, and what is told of its line: what it is, and what to write; nothing if that is the same elsewhere."""
 
     text: str
     said: str = ""
@@ -288,7 +288,7 @@ class Longs:
         self.tally.expect("C++", any(it in done.stderr for it in sums), done)
 
     def starts(self) -> None:
-        """The emulator is started once where there is no such number, where that is left out, and for --check."""
+        """The emulator is started once if there is no such number, if that is left out, and for --check."""
         trace = self.folder / "trace"
         (self.folder / "emulator").write_text(TRACE)
         (self.folder / "emulator").chmod(0o755)
@@ -302,7 +302,7 @@ class Longs:
             self.tally.expect(f"starts for {words}", done.returncode == 0 and len(runs) == count, (runs, done))
 
     def costs_nothing(self) -> None:
-        """A program without such numbers is compiled no more often than where that is left out, and one with them is."""
+        """A program without such numbers is compiled no more often than if that is left out, and one with them is."""
         trace = self.folder / "trace"
         (self.folder / GCC.name).write_text(TRACE)
         (self.folder / GCC.name).chmod(0o755)

@@ -28,8 +28,8 @@ TOLD: Dict[int, Case] = {
     4: Case(["--no-files"], "rank 0, superstep 0: here.cfg was to be read at files, .. : it is in this folder, give --file here.cfg"),
     5: Case([], "superstep 1: the last requests have no effect, because no bsp_sync follows; the last one is at messages, "),
     7: Case([], "10 bytes of malloc at 0x"),
-    8: Case([], "memory that was given back before"),
-    9: Case([], "an address that malloc did not give"),
+    8: Case([], "memory that was freed before"),
+    9: Case([], "an address that malloc did not return"),
     10: Case([], "memory at address 0 was written"),
     11: Case([], "rank 0, superstep 0: a number is read at main, .. , and the input is empty: give --input FILE"),
     12: Case(["--rate", "100000"], "bsp_time returns the cost of the run so far by the model, not the time of this computer: a second is 100,000 instructions", False),
@@ -186,7 +186,7 @@ class Telling:
         (self.folder / "bytes.c").write_text(NO_BYTES)
         self.expect("a get of no bytes", self.run("-n", "2", "--warn", "bytes.c"), 0, NOT_FOUND, "targets of gets read too early")
         (self.folder / "twice.c").write_text(TWICE)
-        self.expect("free of what was merged", self.run("-O0", "twice.c"), 2, "memory that was given back before", "main, twice.c:10")
+        self.expect("free of what was merged", self.run("-O0", "twice.c"), 2, "memory that was freed before", "main, twice.c:10")
         (self.folder / "none.c").write_text(NO_PROCESSES)
         said = "bsp: rank 0: bsp_begin is called with 0 processes, and takes 1 or more\n"
         self.expect("no processes behind bsp_init", self.run("-n", "2", "none.c"), 2, said, "spmd, none.c:4")

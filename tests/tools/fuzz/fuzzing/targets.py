@@ -54,7 +54,7 @@ PACKETS = [
 
 @dataclass(frozen=True)
 class Bases:
-    """The files that are changed, by their kinds, and a program that stops by itself, with names and lines where it could be compiled."""
+    """The files that are changed, by their kinds, and a program that stops by itself, with names and lines if it could be compiled."""
 
     profiles: List[bytes]
     reports: List[bytes]

@@ -162,7 +162,7 @@ class Bench:
         self.tally.tell(f"{program.area.name}, {build.value}, {done} calls", f"{wrong} differ" if wrong else "")
 
     def answers(self, program: Program, build: Build, calls: List[str]) -> Iterator[Tuple[str, str, str]]:
-        """Each call with the lines of host and node. Where the node stops, that is its line, and it goes on with the next call."""
+        """Each call with the lines of host and node. If the node stops, that is its line, and it goes on with the next call."""
         host = program.run_host(calls)
         node: List[str] = []
         while len(node) < len(calls):

@@ -135,7 +135,7 @@ def has_no_base(answer: Answer) -> bool:
 
 
 def is_inexact_and_small(answer: Answer) -> bool:
-    """A result below the least normal number, where one of both says ERANGE and the other does not."""
+    """A result below the least normal number, if one of both says ERANGE and the other does not."""
     if answer.call[0] not in ("strtod", "strtof", "strtold", "wcstod", "wcstof") or answer.host[:2] != answer.node[:2]:
         return False
     magnitude = int(answer.node[0], 16) & ~(1 << 63)

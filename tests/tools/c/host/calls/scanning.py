@@ -138,7 +138,7 @@ UNSET = ("unset", '""', ";")
 
 
 def places_of(answer: Answer, words: List[str]) -> List[str]:
-    """What an answer says of each place, or nothing where it is no answer."""
+    """What an answer says of each place, or nothing if it is no answer."""
     function, types = answer.call[0], answer.call[3:]
     form = " ".join([FIRST.get(function, r"\S+"), *(f"({OF_PLACE.get(it, r'[^ ]+')})" for it in types)])
     found = re.fullmatch(form, " ".join(words))

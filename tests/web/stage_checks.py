@@ -29,6 +29,8 @@ SEED = 89
 # The most bytes of a page beyond the program's sources and input, and the most processor seconds that writing it takes beyond compiling.
 MOST_PAGE, MOST_SECONDS = 800_000, 2.0
 MOST_RECORD = 8 << 20
+# Elements of a page that shows values in values.
+MOST_DRAWN = 30_000
 WIDTHS = (400, 1400)
 STOPS = 10
 FEWEST_CELLS = 400
@@ -495,6 +497,17 @@ def hostile(look: Look) -> str:
     return "" if is_kept else f"{title!r}, {made} scripts and images, {output!r}, {has_source}"
 
 
+def nested(look: Look) -> str:
+    """Of values that lie in each other, as in unions of unions, no more is shown than a browser can draw."""
+    unions = [f"union u{k} {{ {'int' if k == 0 else f'union u{k - 1}'} {', '.join(f'a{i}' for i in range(24))}; }};" for k in range(4)]
+    text = "#include <bsp.h>\n" + "\n".join(unions) + "\nunion u3 all;\nint main(void) { bsp_begin(1); bsp_push_reg(&all, 4); bsp_sync(); bsp_end(); }\n"
+    (look.maker.folder / "unions.c").write_text(text)
+    look.open(look.maker.page(look.maker.folder / "unions.c", ["-n", "1"]))
+    count = look.page.run("document.getElementsByTagName('*').length")
+    has_some = look.page.run("[...document.querySelectorAll('#stage .cell')].filter((it) => it.textContent === '0').length > 100")
+    return "" if has_some and count < MOST_DRAWN else f"{count} elements"
+
+
 def widths(look: Look) -> str:
     """Nothing stands outside of a telephone's width or a screen's, and all can be read, also in dark pages."""
     for path, stop in (("kinds3.html", "1.end"), ("ring64.html", "3.end"), ("fails94.html", "over")):
@@ -556,7 +569,8 @@ def look_at(tally: Tally, browser: str, folder: pathlib.Path, program: str) -> N
     maker = Maker(folder, program)
     with devtools.browser(browser) as page:
         look = Look(page, maker)
-        for check in (values, arrows, totals, moves, plays, chosen, again, many, mistakes, exposures, records, hostile, sizes, named, widths, printed):
+        checks = (values, arrows, totals, moves, plays, chosen, again, many, mistakes, exposures, records, hostile, nested, sizes, named, widths)
+        for check in (*checks, printed):
             page.look(WIDTHS[1], 900)
             tally.tell(f"pages of runs: {str(check.__doc__).rstrip('.')}", check(look))
         tally.tell("pages of runs: what they tell the console", "; ".join(page.pipe.told[:3]))

@@ -21,7 +21,7 @@ import zlib
 from collections.abc import Callable, Iterator, Sequence
 from typing import Any, NoReturn
 
-from . import own_folders
+from . import memory_bound, own_folders
 from .files import is_text
 from .refusals import tell
 
@@ -64,6 +64,7 @@ class Ended(BaseException):
 
 
 def _end(number: int, _frame: object) -> NoReturn:
+    memory_bound.lift()
     # What comes while all is cleared away must not break that off.
     for other in (signal.SIGINT, *SIGNALS):
         signal.signal(other, signal.SIG_IGN)
@@ -160,6 +161,7 @@ def within(seconds: float) -> Iterator[None]:
     """A block that is left by `TooLate` after so long, whatever it does."""
 
     def stop(_number: int, _frame: Any) -> NoReturn:
+        memory_bound.lift()
         raise TooLate
 
     before = signal.signal(signal.SIGALRM, stop)

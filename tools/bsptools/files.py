@@ -16,6 +16,8 @@ from .refusals import Refused, Unfit, about
 MOST_LINKS = 40
 # Of a file that the tools run or trust later. Who else may read it is up to its user's umask.
 OWN_MODE = 0o644
+# renameat2(2): paths are from the current folder on, and two names are exchanged.
+AT_FDCWD, RENAME_EXCHANGE = -100, 2
 GONE = "the current folder no longer exists"
 
 
@@ -152,11 +154,13 @@ def _expect_own_link(path: str | os.PathLike[str]) -> None:
 
 
 def _keep_mode(path: str, new: int) -> None:
-    """Gives a new file the rights of the one whose place it takes, if that is this user's too: another one would choose who may write it."""
+    """Gives a new file the rights of the one whose place it takes, if that is this user's too: another one would choose who may write it.
+    Rights that are right already are left alone: a file system without rights, such as a USB stick's, refuses to set any."""
     with contextlib.suppress(FileNotFoundError):
         found = os.stat(path)
-        if found.st_uid == os.geteuid():
-            os.fchmod(new, stat.S_IMODE(found.st_mode) & 0o777)
+        wanted = stat.S_IMODE(found.st_mode) & 0o777
+        if found.st_uid == os.geteuid() and stat.S_IMODE(os.fstat(new).st_mode) != wanted:
+            os.fchmod(new, wanted)
 
 
 def beside_name() -> str:
@@ -182,6 +186,17 @@ def write(path: str | os.PathLike[str], content: str | bytes) -> None:
     """Writes a whole file."""
     with replaced(path) as written, about(path), open(written, "wb") as file:
         file.write(content.encode(errors="surrogateescape") if isinstance(content, str) else content)
+
+
+def exchange(new: str | os.PathLike[str], old: str | os.PathLike[str]) -> None:
+    """Gives two folders each other's names in one step, so that a process that is killed leaves a whole one under each name."""
+    # Most tools do without it.
+    import ctypes
+
+    libc = ctypes.CDLL(None, use_errno=True)
+    words = [ctypes.c_int(AT_FDCWD), os.fsencode(new), ctypes.c_int(AT_FDCWD), os.fsencode(old), ctypes.c_uint(RENAME_EXCHANGE)]
+    if libc.renameat2(*words) != 0:
+        raise OSError(ctypes.get_errno(), os.strerror(ctypes.get_errno()), os.fspath(old))
 
 
 @contextlib.contextmanager

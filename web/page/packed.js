@@ -1,5 +1,8 @@
 // What is embedded in the page, and what a link holds.
 
+// How many bytes a link holds at most, of a program and its input. Browsers have addresses of 2 MB.
+const MOST_LINKED = 1 << 23;
+
 const $ = (id) => document.getElementById(id);
 
 function bytesOf(text) {
@@ -20,6 +23,22 @@ async function through(stream, bytes) {
 const unpacked = (id) => through(new DecompressionStream("gzip"), bytesOf($(id).textContent));
 const decoded = async (id) => new TextDecoder().decode(await unpacked(id));
 
+// What deflate has packed. A few bytes may stand for very many: no more are unpacked than asked for.
+async function unpackedUpTo(most, bytes) {
+  const pieces = [];
+  let left = most;
+  const reader = new Blob([bytes]).stream().pipeThrough(new DecompressionStream("deflate-raw")).getReader();
+  for (let it = await reader.read(); !it.done; it = await reader.read()) {
+    left -= it.value.length;
+    if (left < 0) {
+      await reader.cancel();
+      throw new Error(`the link has more than ${most} bytes`);
+    }
+    pieces.push(it.value);
+  }
+  return new Uint8Array(await new Blob(pieces).arrayBuffer());
+}
+
 // A value of JSON as a part of an address, and back.
 async function toLink(value) {
   const packed = await through(new CompressionStream("deflate-raw"), new TextEncoder().encode(JSON.stringify(value)));
@@ -28,5 +47,5 @@ async function toLink(value) {
 
 async function fromLink(code) {
   const packed = bytesOf(code.replaceAll("-", "+").replaceAll("_", "/"));
-  return JSON.parse(new TextDecoder().decode(await through(new DecompressionStream("deflate-raw"), packed)));
+  return JSON.parse(new TextDecoder().decode(await unpackedUpTo(MOST_LINKED, packed)));
 }

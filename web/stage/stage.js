@@ -39,6 +39,7 @@ class Stage {
     const hasMessages = arrows.some((it) => it.kind === "message");
     this.touched = touchedBytes(arrows, looks);
     this.most = looks.length > MOST_WIDE_COLUMNS ? MOST_ELEMENTS : MOST_OF_FEW_RANKS;
+    this.left = MOST_VALUES;
     this.cells = new Map(looks.map((it) => [it.rank, []]));
     this.queues = new Map();
     this.landed = new Map();
@@ -104,7 +105,16 @@ class Stage {
   value(look, box, old) {
     const touched = (this.touched.get(look.rank) ?? []).filter(([begin, end]) => begin < box.address + box.size && end > box.address);
     const inside = touched.map(([begin, end]) => [begin - box.address, end - box.address]);
-    const shown = new Shown(this.names.types, (address) => this.named(look, address), this.view.isOpen(box.name), inside, this.most);
+    const isOpen = this.view.isOpen(box.name);
+    const room = { left: isOpen ? this.left : Math.min(MOST_OF_FOLDED, this.left) };
+    const all = room.left;
+    const shown = new Shown(this.names.types, (address) => this.named(look, address), isOpen, inside, this.most, room);
+    const found = this.valueIn(shown, box, old);
+    this.left -= all - room.left;
+    return found;
+  }
+
+  valueIn(shown, box, old) {
     if (box.type !== undefined) {
       return shown.value(box.type, box.bytes, old);
     }

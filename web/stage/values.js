@@ -12,6 +12,11 @@ const MOST_TOUCHED = 24;
 const FEW_TOUCHED = 4;
 const MOST_TEXT = 200;
 const MOST_CHANGED = 24;
+// How many values are shown of all boxes of a stop together, and of one box unless a reader asks for all; and how deep they lie in others.
+// Unions of unions have millions in a few bytes.
+const MOST_VALUES = 12_000;
+const MOST_OF_FOLDED = 1500;
+const MOST_INSIDE = 12;
 
 /** A number of the kind double in as few digits as a person wants to read. */
 function shortNumber(value) {
@@ -77,9 +82,10 @@ class Shown {
    * @param {boolean} isOpen whether long arrays are shown with all their elements
    * @param {[number, number][]} touched where bytes of the box begin and end that requests take or bring
    * @param {number} most how many of the first elements of a long array are shown
+   * @param {{left: number}} room how many values there may be
    */
-  constructor(types, named, isOpen = false, touched = [], most = MOST_ELEMENTS) {
-    Object.assign(this, { types, named, isOpen, touched, most });
+  constructor(types, named, isOpen = false, touched = [], most = MOST_ELEMENTS, room = { left: MOST_VALUES }) {
+    Object.assign(this, { types, named, isOpen, touched, most, room, inside: 0 });
   }
 
   /**
@@ -91,13 +97,17 @@ class Shown {
    */
   value(number, bytes, before, at = 0) {
     const type = this.types[number];
-    if (type?.kind === "array") {
-      return this.array(type, bytes, before, at);
+    this.room.left -= 1;
+    if (type?.kind !== "array" && type?.kind !== "record") {
+      return this.cell(scalar(type, bytes, this.named), at, bytes, before);
     }
-    if (type?.kind === "record") {
-      return this.record(type, bytes, before, at);
+    if (this.room.left <= 0 || this.inside >= MOST_INSIDE) {
+      return this.cell("…", at, bytes, before);
     }
-    return this.cell(scalar(type, bytes, this.named), at, bytes, before);
+    this.inside += 1;
+    const found = type.kind === "array" ? this.array(type, bytes, before, at) : this.record(type, bytes, before, at);
+    this.inside -= 1;
+    return found;
   }
 
   cell(text, at, bytes, before) {

@@ -174,13 +174,13 @@ def deliver(job: Job, done: Done) -> int:
         lines = held_lines(job, found)
         put(b"".join([b"" if done.is_line_whole or not lines else b"\n", *(line + b"\n" for line in lines)]))
     chosen, is_whole = None, True
-    if done.records or options.out is not None:
+    if done.notes or done.files.files or options.out is not None:
         from ..run.exit_status import chosen_status
         from ..run.record_messages import tell_records
         from ..outputs.library_notes import STATUS
 
-        chosen = chosen_status(job, found, done.records)
-        is_whole = tell_records(job, done.records, found, untold=STATUS if chosen is not None and chosen.is_of_all else "")
+        chosen = chosen_status(job, found, done.notes)
+        is_whole = tell_records(job, done.notes, done.files, found, untold=STATUS if chosen is not None and chosen.is_of_all else "")
     if done.has_null and job.mark:
         tell(["bsprun: a NULL text was printed, as by puts or %s: the output has the bytes at address 0"])
     is_told = tell_offsets(job, found, done.seconds)
@@ -213,11 +213,11 @@ def tell_where(job: Job, begin: str, stopped: Stopped, is_awaited: bool) -> None
     """Keeps the files of a run that was broken off, and says in a line where its ranks were: soon, where a person waits for that."""
     from ..run.rank_positions import MOST_AWAITED, ranks_at
 
-    if job.options.out is not None and stopped.records:
+    if job.options.out is not None and stopped.files.files:
         from ..run.record_messages import put_files
 
-        if put_files(job, stopped.records).files:
-            tell([f"bsprun: files in {job.options.out} contain what was written before the superstep in which the run was stopped"])
+        put_files(job, stopped.files)
+        tell([f"bsprun: files in {job.options.out} contain what was written before the superstep in which the run was stopped"])
     show("bsprun: looking for where the ranks were: Ctrl-C leaves that out")
     line = f"bsprun: {begin} after {stopped.seconds:.1f} s"
     try:

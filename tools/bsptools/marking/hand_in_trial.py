@@ -14,7 +14,7 @@ from collections.abc import Collection, Iterator, Mapping
 from dataclasses import dataclass, field
 from typing import Dict, List, Optional, Tuple
 
-from .. import emulator, limits
+from .. import emulator, limits, memory_bound
 from ..counts import step_counts
 from ..counts.h_relations import Traffic
 from ..counts.line_costs import Work
@@ -395,8 +395,8 @@ def dearest_requests(work: Work, trace: Tracer, report: Report) -> List[str]:
     return found
 
 
-class _Impatient(Exception):
-    """It has taken too long."""
+class _Impatient(BaseException):
+    """It has taken too long. What is left out because it cannot be read, as any Exception, does not keep this one."""
 
 
 @contextlib.contextmanager
@@ -404,6 +404,7 @@ def patient(seconds: int = PATIENCE) -> Iterator[None]:
     """A block for what is told beside, which is left out where it takes too long, more memory than there is, or what is not known."""
 
     def stop(_number: int, _frame: object) -> None:
+        memory_bound.lift()
         raise _Impatient
 
     before = signal.signal(signal.SIGALRM, stop)

@@ -4,7 +4,6 @@ from __future__ import annotations
 
 from ..diagnosis.stop_reasons import MOST_TRACED
 from ..framed.backtrace import frames, place, users_frames
-from ..outputs import output_records
 from ..outputs.library_notes import Note, NoteTeller, note_of
 from ..outputs.output_records import Record
 from ..outputs.report import Report
@@ -18,11 +17,12 @@ from ..refusals import counted, tell
 MOST_NAMED = 5
 
 
-def tell_records(job: Job, made: list[Record], found: Report, untold: str = "") -> bool:
+def tell_records(job: Job, made: list[Record], written: Files, found: Report, untold: str = "") -> bool:
     """Puts the files that were written where they belong, and tells what the program's library noted, but for one kind of notes; whether no
     file is lacking."""
-    options, written = job.options, put_files(job, made)
-    notes = [it for it in map(note_of, (it for it in made if it.kind == output_records.NOTE)) if it is not None]
+    options = job.options
+    put_files(job, written)
+    notes = [it for it in map(note_of, made) if it is not None]
 
     def where(note: Note) -> str:
         return place_of(job, found, notes, note)
@@ -32,12 +32,9 @@ def tell_records(job: Job, made: list[Record], found: Report, untold: str = "") 
     return written.is_put and written.is_whole
 
 
-def put_files(job: Job, made: list[Record]) -> Files:
+def put_files(job: Job, written: Files) -> None:
     """Puts the files that were written where they belong."""
-    options, written = job.options, Files()
-    for it in made:
-        if it.kind != output_records.NOTE:
-            written.take(it)
+    options = job.options
     if options.out is not None:
         # What ARGS and --files name is given where it is there, and may be what an earlier run has written.
         kept = {it: "it is read as" for it in [options.program, *options.sources, *filter(None, [options.input]), *options.file]}
@@ -46,7 +43,6 @@ def put_files(job: Job, made: list[Record]) -> Files:
         tell([f"bsprun: {it}" for it in written.put(options.folder, kept, given)])
         if options.is_here and written.names:
             tell([f"bsprun: wrote {listed(written.names)}"])
-    return written
 
 
 def listed(names: list[str]) -> str:

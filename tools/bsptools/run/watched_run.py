@@ -21,7 +21,8 @@ from typing import NamedTuple
 from .. import children, files, streams
 from ..outputs import report
 from ..outputs.output_demux import ERROR, OUTPUT, Marks, Tail, new_digest
-from ..outputs.output_records import Record, record_of
+from ..outputs.output_records import NOTE, Record, record_of
+from ..outputs.written_files import Files
 from ..prepare.job import Job
 from ..refusals import UNWRITTEN, put, show, tell
 from .found_files import Finder, Wanted
@@ -43,7 +44,7 @@ MARK = f"\033[7m{PLAIN_MARK}\033[m"
 
 
 class Done(NamedTuple):
-    """How a run ended: its status, its report if it has one, what the emulator said, and the records that it wrote. `seconds` is how
+    """How a run ended: its status, its report if it has one, what the emulator said, and the notes and files of its program. `seconds` is how
     long it took, `is_line_whole` whether its output has ended its last line, `has_null` whether that has what NULL points to, and `digest`
     that of its output and standard error, where it will be compared with those of other runs."""
 
@@ -51,18 +52,19 @@ class Done(NamedTuple):
     report: report.Report | None
     said: bytes
     seconds: float
-    records: list[Record]
+    notes: list[Record]
+    files: Files
     is_line_whole: bool
     has_null: bool
     digest: bytes | None
 
 
 class Stopped(Exception):
-    """The clock has ended a run, after so long. The emulator has written so many bytes up to then, and these records."""
+    """The clock has ended a run, after so long. The emulator has written so many bytes up to then, and its program these files."""
 
-    def __init__(self, seconds: float, written: int, records: list[Record]) -> None:
+    def __init__(self, seconds: float, written: int, files: Files) -> None:
         super().__init__(seconds, written)
-        self.seconds, self.written, self.records = seconds, written, records
+        self.seconds, self.written, self.files = seconds, written, files
 
 
 class Interrupted(Stopped):
@@ -86,7 +88,9 @@ class Outputs:
         # Of all that was written, if that is wanted.
         self._sum = new_digest() if is_compared else None
         self.nodes, self.received = nodes, 0
-        self.records: list[Record] = []
+        # A run without an end may write to files without an end, so no more is kept than the files have.
+        self.notes: list[Record] = []
+        self.files = Files()
         # Whether what stands at address 0 was written, as by puts(NULL).
         self.has_null = False
         self.kept: list[tuple[bool, bytes]] | None = [] if nodes > 1 else None
@@ -117,7 +121,10 @@ class Outputs:
 
     def _keep(self, record: Record | None) -> None:
         if record is not None:
-            self.records.append(record)
+            if record.kind == NOTE:
+                self.notes.append(record)
+            else:
+                self.files.take(record)
             if not self.repeated.is_long:
                 self.finder.look(record)
 
@@ -243,12 +250,12 @@ class Watch:
                     if kind is not Interrupted:
                         raise
                     streams.drop_output()
-                raise kind(seconds, self.outputs.received, self.outputs.records) from None
+                raise kind(seconds, self.outputs.received, self.outputs.files) from None
             finally:
                 self.outputs.clear()
         found = self.outputs.end()
         outputs = self.outputs
-        return Done(status, found, bytes(self.said), seconds, outputs.records, outputs.is_line_whole, outputs.has_null, outputs.digest)
+        return Done(status, found, bytes(self.said), seconds, outputs.notes, outputs.files, outputs.is_line_whole, outputs.has_null, outputs.digest)
 
     def _follow(self, child: subprocess.Popen[bytes], is_ended: bool = False) -> None:
         """Takes what an emulator writes until it ends. One that was ended is not waited for any more."""
@@ -301,7 +308,7 @@ class Watch:
 
     def _look_at_clock(self) -> None:
         if self.wall is not None and self.seconds >= self.wall:
-            raise Stopped(self.seconds, self.outputs.received, self.outputs.records)
+            raise Stopped(self.seconds, self.outputs.received, self.outputs.files)
         if self.seconds >= QUIET_SECONDS:
             self.outputs.show(self.seconds)
             if not self.is_prepared:

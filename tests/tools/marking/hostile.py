@@ -178,9 +178,9 @@ def unsearched(tally: Tally, folder: pathlib.Path) -> None:
     bench.write("long.c", TAKES_LONG)
     bench.write("dodges.c", DODGES)
     for kind, sheet, name, status, wanted in (
-        ("finds races slowly", "races.toml", "right.c", NOT_MARKED, ("not judged", "the search for bytes that two requests write came to no end")),
-        ("is impatient", "sheet.toml", "long.c", NOT_MARKED, ("not judged", "the trial of what BSPlib leaves open came to no end in 3 s")),
-        ("is patient", "sheet.toml", "dodges.c", NOT_ALL_RIGHT, ("not portable", "it does not end well where it is compiled for this trial")),
+        ("finds races slowly", "races.toml", "right.c", NOT_MARKED, ("not judged", "the search for bytes that two requests write did not end in 3 s")),
+        ("is impatient", "sheet.toml", "long.c", NOT_MARKED, ("not judged", "the trial of what BSPlib leaves open did not end in 3 s")),
+        ("is patient", "sheet.toml", "dodges.c", NOT_ALL_RIGHT, ("not portable", "it fails if it is compiled for this trial")),
     ):
         (bench.folder / "m.csv").unlink(missing_ok=True)
         words = [sys.executable, "-I", "-B", "-c", IMPATIENT, str(REPO / "tools"), kind, "--jobs", "1", "-o", "m.csv", sheet, name]

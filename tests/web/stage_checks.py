@@ -125,7 +125,7 @@ class Look:
         """Opens a page at a stop."""
         self.page.open("about:blank")
         self.page.open(path.as_uri() + (f"#{stop}" if stop else ""))
-        self.page.wait("document.documentElement.dataset.ready || document.getElementById('status').className === 'error'")
+        self.page.wait("document.documentElement.dataset.ready || document.getElementById('status')?.className === 'error'")
         said = self.page.run("document.getElementById('status').textContent")
         if said:
             raise AssertionError(f"{path.name} says {said}")
@@ -235,7 +235,7 @@ def values(look: Look) -> str:
                 more, fault = compared(look, session, formats)
                 fault = fault or states(look, session)
             count += more
-            if fault or "Superstep" not in said and "over" not in said:
+            if fault or "uperstep" not in said:
                 return f"{source} at {stop}: {fault or said}"
     return "" if count >= FEWEST_CELLS else f"{count} cells were compared"
 
@@ -334,8 +334,10 @@ def plays(look: Look) -> str:
     """A run plays by itself up to its end, and can be paused."""
     source, words, _ = PROGRAMS[0]
     look.open(look.maker.page(look.maker.elf(source, words), words), "2")
-    look.page.run("$('speed').value = '3'")
+    look.page.run("$('speed').value = '3'; $('play-by').value = 'half'")
     look.page.click("#play")
+    look.page.wait("location.hash === '#2.end' || moves.stop.kind === 'over'")
+    look.page.run("$('play-by').value = 'stop'")
     look.page.wait("moves.stop.kind === 'over'")
     look.page.wait("$('play').textContent === 'Play'")
     return ""
@@ -375,6 +377,35 @@ def many(look: Look) -> str:
     look.go("17")
     look.go("9990.end")
     return fault or ("" if count == 8 and "Superstep 9990" in look.what() else f"{count} {look.what()}")
+
+
+def chosen(look: Look) -> str:
+    """Rows are hidden, arrays opened and the arrows of one rank shown, and a link keeps that; the table of bytes has the profile's."""
+    source, words, _ = PROGRAMS[4]
+    words = ["-n", "4", "-D", "N=160"]
+    program = look.maker.elf(source, words)
+    look.open(look.maker.page(program, words, "halo"), "1.end")
+    # The cells of a halo are shown, though they are far behind the first ones of the array.
+    halo = "[...document.querySelectorAll('td.box[data-name=rod][data-rank=\"0\"] .cell.brought.asked')].map((it) => [Number(it.dataset.at), it.title])"
+    if look.page.run(halo) != [[164, "put from rank 1"]]:
+        return f"the halo is {look.page.run(halo)}"
+    look.page.run("$('traffic').open = true; moves.traffic()")
+    table = look.page.run("[...document.querySelectorAll('#traffic-table tbody tr')].map((row) => [...row.children].map((it) => it.textContent))")
+    if ["|".join(row) for row in table] != ["0||4|||4", "1|4||4||8", "2||4||4|8", "3|||4||4", "received|4|8|8|4|h = 8"]:
+        return f"the table is {table}"
+    look.page.click("td.box[data-name=rod] .fold")
+    look.page.click("th.rank[data-rank='3']")
+    look.page.run("$('rows').open = true; stage.view.list(); document.querySelector('[aria-label=\"Show sum\"]').click()")
+    link = look.page.run("location.hash.slice(1)")
+    script = "[document.querySelectorAll('td.box[data-name=sum]').length, document.querySelectorAll('path.arrow').length,"
+    script += " document.querySelectorAll('td.box[data-name=rod][data-rank=\"1\"] .element').length]"
+    seen = look.page.run(script)
+    look.open(look.maker.folder / "halo4.html", link)
+    again_seen = look.page.run(script)
+    look.page.run("$('stop').value = '3'; $('stop').oninput()")
+    look.page.wait("location.hash.startsWith('#1.3&')")
+    is_kept = link == "1.end&hide=sum&all=rod&arrows=3" and seen == again_seen == [0, 2, 162]
+    return "" if is_kept else f"{link}: {seen}, and by the link {again_seen}"
 
 
 def mistakes(look: Look) -> str:
@@ -538,7 +569,8 @@ def look_at(tally: Tally, browser: str, folder: pathlib.Path, program: str) -> N
     maker = Maker(folder, program)
     with devtools.browser(browser) as page:
         look = Look(page, maker)
-        for check in (values, arrows, totals, moves, plays, again, many, mistakes, exposures, records, hostile, nested, sizes, named, widths, printed):
+        checks = (values, arrows, totals, moves, plays, chosen, again, many, mistakes, exposures, records, hostile, nested, sizes, named, widths)
+        for check in (*checks, printed):
             page.look(WIDTHS[1], 900)
             tally.tell(f"pages of runs: {str(check.__doc__).rstrip('.')}", check(look))
         tally.tell("pages of runs: what they tell the console", "; ".join(page.pipe.told[:3]))

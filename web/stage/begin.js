@@ -234,7 +234,7 @@ async function loadMachine() {
   }
   const record = await decoded("record");
   if (record === "null") {
-    throw new Error(`${why} The page has no record of the run, which is too long for one.`);
+    throw new Error(`${why} The page has no recording of this run, which is too long for one.`);
   }
   recordOf = JSON.parse(record);
   $("other").hidden = true;

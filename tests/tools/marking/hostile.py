@@ -1,4 +1,4 @@
-"""Hand-ins that try more than to be right: to read what is not theirs, to take all that there is, and to be taken for something else."""
+"""Hostile hand-ins, which try to read other files, to use up all memory or disk, or to pass as something else."""
 
 from __future__ import annotations
 

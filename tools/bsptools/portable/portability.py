@@ -36,7 +36,7 @@ PATTERNS = (0x40, 0xC1)
 SPOILT = 0x5A
 # GCC gives each variable of a function that has no value these bits, in builds for the second and third run.
 VALUES = ("pattern", "zero")
-MOST_BUILDS = 4
+MOST_BUILDS = 5
 CHANGED = "the source of an unbuffered call is other at bsp_sync: call "
 # What a program says where there are more nodes than it takes, and one that ends with a status of its own.
 MORE_NODES = b"there are more nodes than the program takes in bsp_begin"
@@ -119,7 +119,7 @@ class Portable:
         self.told_pairs: set[tuple[int, ...]] = set()
         # Builds that look at accesses, and in which variables of functions have values.
         self.looking: Trials | None = None
-        self.valued: list[tuple[Trials, list[str]]] | None = None
+        self.valued: concurrent.futures.Future[list[tuple[Trials, list[str]]]] | None = None
         # Whether something of what seldom counts does, so that each part of it is looked for by itself.
         self.is_rare = True
         self.verdict = Verdict()
@@ -152,6 +152,7 @@ class Portable:
         if self.subject.options.sources:
             for value in VALUES:
                 self.builds.begin(*options_for(value))
+            self.valued = self.builds.pool.submit(self.with_values)
 
     def fresh_choices(self) -> list[Choices]:
         """The runs with other bytes in fresh memory. Where a run is told by what it writes alone, one of them has also all else that seldom
@@ -307,12 +308,9 @@ class Portable:
         if self.trials.room and any(it.has_unbuffered for it in self.log) and self.has(*CALLS):
             self.trials.begin_all([Choices(unbuffered=WATCHED), *TIMES])
             if "bsp_ranges" not in self.code.names and self.subject.options.sources:
-                self.builds.begin(*LOOKING)
-                self.with_values()
                 with contextlib.suppress(Refused):
                     self.looking, _ = self.builds.get(self.subject, self.trials.ticks, *LOOKING)
                     self.looking.begin_all([Choices()], logged=[Choices()])
-        self.with_values()
 
     def tried(self, what: str, look: Callable[[], None]) -> None:
         """Looks for something where there is room for what is kept."""
@@ -570,7 +568,9 @@ class Portable:
                 self.find(self.findings().stack(self.trials, choices, other.difference))
             if other is not None:
                 return False
-        for value, (trials, said) in zip(VALUES, self.with_values()):
+        for value, (trials, said) in zip(VALUES, self.valued.result() if self.valued is not None else []):
+            if trials.room and not self.trials.room:
+                trials.go_without_room()
             ending = trials.run(Choices())
             if ending != self.ended:
                 self.find(self.findings().stack(trials, Choices(), parted(self.ended, ending), said, value))
@@ -581,12 +581,10 @@ class Portable:
 
     def with_values(self) -> list[tuple[Trials, list[str]]]:
         """Builds in which GCC gives variables of functions values, with what was said of them, whose runs are begun."""
-        if self.valued is None:
-            self.valued = [self.builds.get(self.subject, self.trials.ticks, *options_for(it)) for it in VALUES] if self.subject.options.sources else []
-            for trials, _ in self.valued:
-                trials.room = trials.room and self.trials.room
-                trials.begin_all([Choices()])
-        return self.valued
+        made = [self.builds.get(self.subject, self.trials.ticks, *options_for(it)) for it in VALUES]
+        for trials, _ in made:
+            trials.begin_all([Choices()])
+        return made
 
     def other_nodes(self) -> None:
         """The program on one node less and one more, for information."""

@@ -1,11 +1,13 @@
-"""The page in which programs run, in Chromium from a file: what people do there, and what a hostile program or link can do."""
+"""The page in which programs run, in Chromium from a file: actions of users, and attacks by hostile programs and links."""
 
 from __future__ import annotations
 
+import base64
 import json
 import os
 import pathlib
 import subprocess
+import zlib
 from typing import Dict, Iterator, List, Tuple
 
 import devtools
@@ -98,7 +100,11 @@ def faults(page: devtools.Page, path: pathlib.Path, program: str) -> Iterator[Tu
     """The names of the checks, with what is wrong, or nothing."""
     look = Look(page, path.as_uri(), program)
     look.forget(True)
-    for check in (starts, runs, compiled, refuses, fails, many, settings, steps, points, places, still, links, keeps, ends, hostile, drops, keys, focus, named, prints, widths):
+    checks = (
+        starts, runs, compiled, refuses, fails, many, settings, steps, points, places, still, links, long_links, keeps, ends, hostile, drops,
+        keys, focus, named, prints, widths,
+    )  # fmt: skip
+    for check in checks:
         look.page.look(WIDTHS[1], 900)
         look.fresh()
         yield str(check.__doc__).rstrip("."), check(look)
@@ -288,6 +294,15 @@ def links(look: Look) -> str:
     damaged = look.page.run(STATUS)
     is_right = has_all and not has_run and said.startswith("ended") and "damaged" in damaged
     return "" if is_right else f"{code} {has_all} {has_run} {said} {damaged}"
+
+
+def long_links(look: Look) -> str:
+    """A link whose few bytes stand for very many shows nothing of them."""
+    packer = zlib.compressobj(9, zlib.DEFLATED, -15)
+    content = b"".join([packer.compress(b'{"text":"'), packer.compress(b"nop\\n" * (2 << 20)), packer.compress(b'"}'), packer.flush()])
+    look.fresh("#" + base64.urlsafe_b64encode(content).decode().rstrip("="))
+    said, length = look.page.run(STATUS), look.page.run(f"{EDITOR}.getValue().length")
+    return "" if "damaged" in said and length < 1 << 16 else f"{said}, {length}"
 
 
 def keeps(look: Look) -> str:

@@ -1,4 +1,4 @@
-"""Pages of runs, in Chromium from files: what they show, beside the native debugger, profile and report.
+"""Pages of runs, in Chromium from files, compared with the native debugger, profile and report.
 
 Also moves, links and mistakes; many ranks and supersteps; widths, print, keys and labels; hostile names and contents.
 """
@@ -29,6 +29,8 @@ SEED = 89
 # The most bytes of a page beyond the program's sources and input, and the most processor seconds that writing it takes beyond compiling.
 MOST_PAGE, MOST_SECONDS = 800_000, 2.0
 MOST_RECORD = 8 << 20
+# Elements of a page that shows values in values.
+MOST_DRAWN = 30_000
 WIDTHS = (400, 1400)
 STOPS = 10
 FEWEST_CELLS = 400
@@ -123,7 +125,7 @@ class Look:
         """Opens a page at a stop."""
         self.page.open("about:blank")
         self.page.open(path.as_uri() + (f"#{stop}" if stop else ""))
-        self.page.wait("document.documentElement.dataset.ready || document.getElementById('status').className === 'error'")
+        self.page.wait("document.documentElement.dataset.ready || document.getElementById('status')?.className === 'error'")
         said = self.page.run("document.getElementById('status').textContent")
         if said:
             raise AssertionError(f"{path.name} says {said}")
@@ -233,7 +235,7 @@ def values(look: Look) -> str:
                 more, fault = compared(look, session, formats)
                 fault = fault or states(look, session)
             count += more
-            if fault or "Superstep" not in said and "over" not in said:
+            if fault or "uperstep" not in said:
                 return f"{source} at {stop}: {fault or said}"
     return "" if count >= FEWEST_CELLS else f"{count} cells were compared"
 
@@ -332,8 +334,10 @@ def plays(look: Look) -> str:
     """A run plays by itself up to its end, and can be paused."""
     source, words, _ = PROGRAMS[0]
     look.open(look.maker.page(look.maker.elf(source, words), words), "2")
-    look.page.run("$('speed').value = '3'")
+    look.page.run("$('speed').value = '3'; $('play-by').value = 'half'")
     look.page.click("#play")
+    look.page.wait("location.hash === '#2.end' || moves.stop.kind === 'over'")
+    look.page.run("$('play-by').value = 'stop'")
     look.page.wait("moves.stop.kind === 'over'")
     look.page.wait("$('play').textContent === 'Play'")
     return ""
@@ -373,6 +377,35 @@ def many(look: Look) -> str:
     look.go("17")
     look.go("9990.end")
     return fault or ("" if count == 8 and "Superstep 9990" in look.what() else f"{count} {look.what()}")
+
+
+def chosen(look: Look) -> str:
+    """Rows are hidden, arrays opened and the arrows of one rank shown, and a link keeps that; the table of bytes has the profile's."""
+    source, words, _ = PROGRAMS[4]
+    words = ["-n", "4", "-D", "N=160"]
+    program = look.maker.elf(source, words)
+    look.open(look.maker.page(program, words, "halo"), "1.end")
+    # The cells of a halo are shown, though they are far behind the first ones of the array.
+    halo = "[...document.querySelectorAll('td.box[data-name=rod][data-rank=\"0\"] .cell.brought.asked')].map((it) => [Number(it.dataset.at), it.title])"
+    if look.page.run(halo) != [[164, "put from rank 1"]]:
+        return f"the halo is {look.page.run(halo)}"
+    look.page.run("$('traffic').open = true; moves.traffic()")
+    table = look.page.run("[...document.querySelectorAll('#traffic-table tbody tr')].map((row) => [...row.children].map((it) => it.textContent))")
+    if ["|".join(row) for row in table] != ["0||4|||4", "1|4||4||8", "2||4||4|8", "3|||4||4", "received|4|8|8|4|h = 8"]:
+        return f"the table is {table}"
+    look.page.click("td.box[data-name=rod] .fold")
+    look.page.click("th.rank[data-rank='3']")
+    look.page.run("$('rows').open = true; stage.view.list(); document.querySelector('[aria-label=\"Show sum\"]').click()")
+    link = look.page.run("location.hash.slice(1)")
+    script = "[document.querySelectorAll('td.box[data-name=sum]').length, document.querySelectorAll('path.arrow').length,"
+    script += " document.querySelectorAll('td.box[data-name=rod][data-rank=\"1\"] .element').length]"
+    seen = look.page.run(script)
+    look.open(look.maker.folder / "halo4.html", link)
+    again_seen = look.page.run(script)
+    look.page.run("$('stop').value = '3'; $('stop').oninput()")
+    look.page.wait("location.hash.startsWith('#1.3&')")
+    is_kept = link == "1.end&hide=sum&all=rod&arrows=3" and seen == again_seen == [0, 2, 162]
+    return "" if is_kept else f"{link}: {seen}, and by the link {again_seen}"
 
 
 def mistakes(look: Look) -> str:
@@ -464,6 +497,17 @@ def hostile(look: Look) -> str:
     return "" if is_kept else f"{title!r}, {made} scripts and images, {output!r}, {has_source}"
 
 
+def nested(look: Look) -> str:
+    """Of values that lie in each other, as in unions of unions, no more is shown than a browser can draw."""
+    unions = [f"union u{k} {{ {'int' if k == 0 else f'union u{k - 1}'} {', '.join(f'a{i}' for i in range(24))}; }};" for k in range(4)]
+    text = "#include <bsp.h>\n" + "\n".join(unions) + "\nunion u3 all;\nint main(void) { bsp_begin(1); bsp_push_reg(&all, 4); bsp_sync(); bsp_end(); }\n"
+    (look.maker.folder / "unions.c").write_text(text)
+    look.open(look.maker.page(look.maker.folder / "unions.c", ["-n", "1"]))
+    count = look.page.run("document.getElementsByTagName('*').length")
+    has_some = look.page.run("[...document.querySelectorAll('#stage .cell')].filter((it) => it.textContent === '0').length > 100")
+    return "" if has_some and count < MOST_DRAWN else f"{count} elements"
+
+
 def widths(look: Look) -> str:
     """Nothing stands outside of a telephone's width or a screen's, and all can be read, also in dark pages."""
     for path, stop in (("kinds3.html", "1.end"), ("ring64.html", "3.end"), ("fails94.html", "over")):
@@ -525,7 +569,8 @@ def look_at(tally: Tally, browser: str, folder: pathlib.Path, program: str) -> N
     maker = Maker(folder, program)
     with devtools.browser(browser) as page:
         look = Look(page, maker)
-        for check in (values, arrows, totals, moves, plays, again, many, mistakes, exposures, records, hostile, sizes, named, widths, printed):
+        checks = (values, arrows, totals, moves, plays, chosen, again, many, mistakes, exposures, records, hostile, nested, sizes, named, widths)
+        for check in (*checks, printed):
             page.look(WIDTHS[1], 900)
             tally.tell(f"pages of runs: {str(check.__doc__).rstrip('.')}", check(look))
         tally.tell("pages of runs: what they tell the console", "; ".join(page.pipe.told[:3]))

@@ -13,7 +13,6 @@ import subprocess
 import sys
 import tempfile
 import time
-from typing import TYPE_CHECKING
 
 from . import VERSION, children, files
 from .refusals import Refused, lines_of, show, tell
@@ -23,8 +22,6 @@ IN_WHEEL = pathlib.Path(__file__).resolve().parents[1] / "bspemu/share"
 # The repository that this package is in, or what a wheel has of it.
 REPO = IN_WHEEL if IN_WHEEL.exists() else pathlib.Path(__file__).resolve().parents[2]
 QUIET_SECONDS = 2
-if TYPE_CHECKING:
-    Run = concurrent.futures.Future[subprocess.CompletedProcess[bytes]]
 
 
 def program(name: str) -> str:
@@ -123,7 +120,7 @@ class Runs:
 
     def __init__(self) -> None:
         self._pool = concurrent.futures.ThreadPoolExecutor(len(os.sched_getaffinity(0)))
-        self._begun: list[Run] = []
+        self._begun: list[concurrent.futures.Future[subprocess.CompletedProcess[bytes]]] = []
         self._going: set[subprocess.Popen[bytes]] = set()
         self._is_over = False
 
@@ -140,7 +137,7 @@ class Runs:
                     os.killpg(child.pid, signal.SIGKILL)
         self._pool.shutdown()
 
-    def begin(self, words: list[str]) -> Run:
+    def begin(self, words: list[str]) -> concurrent.futures.Future[subprocess.CompletedProcess[bytes]]:
         """Begins a run once there is a processor for it."""
         self._begun.append(self._pool.submit(self._run, words))
         return self._begun[-1]

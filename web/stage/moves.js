@@ -175,6 +175,7 @@ class Moves {
     const choice = $("arrows").value;
     const isWanted = (it) => choice === "all" || it.from === Number(choice) || it.to === Number(choice);
     const wanted = requests.arrows.filter((it) => choice !== "none" && isWanted(it) && this.shown.includes(it.from) && this.shown.includes(it.to));
+    this.stage.frame(wanted, requests.landed);
     this.stage.arrows.show(wanted, requests.landed);
     this.stage.heads.forEach((head, rank) => head.classList.toggle("chosen", String(rank) === choice));
     const hidden = requests.arrows.length - wanted.length + requests.left;

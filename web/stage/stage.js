@@ -36,6 +36,7 @@ class Stage {
    */
   show(now, before, contested, exposed, arrows, stop) {
     const looks = now.looks;
+    this.framed = new Map();
     const hasMessages = arrows.some((it) => it.kind === "message");
     this.touched = touchedBytes(arrows, looks);
     this.most = looks.length > MOST_WIDE_COLUMNS ? MOST_ELEMENTS : MOST_OF_FEW_RANKS;
@@ -54,7 +55,6 @@ class Stage {
     $("heads").replaceChildren(made("tr", "", made("td", "corner"), ...looks.map((it) => this.head(it, it.rank === active))));
     $("states").replaceChildren(states);
     $("boxes").replaceChildren(...areas, ...queue, ...others);
-    this.markTouched(arrows, stop.kind === "begin");
     this.markBytes(contested, "contested", "two requests bring different values here");
     this.markBytes(exposed, "exposed", "one request reads this, and another one writes it, in an open order");
   }
@@ -173,19 +173,25 @@ class Stage {
     return partOf(found, address) ?? found.cell;
   }
 
-  // Marks the cells whose bytes requests take, and those to which they bring some.
-  markTouched(arrows, hasLanded) {
+  /** Frames the cells whose bytes requests take, and those to which they bring some, and no others. @param {any[]} arrows @param {boolean} hasLanded */
+  frame(arrows, hasLanded) {
+    for (const [cell, title] of this.framed) {
+      cell.classList.remove("taken", "brought", "asked", "put", "get", "message");
+      cell.title = title;
+    }
+    this.framed.clear();
     for (const it of arrows.slice(0, MOST_TOUCHING)) {
-      this.markCells(it.from, it.begins, it.bytes, `taken ${it.kind}`, `${it.kind} to rank ${it.to}`);
-      it.kind !== "message" && this.markCells(it.to, it.lands, it.bytes, `brought ${it.kind}${hasLanded ? "" : " asked"}`, `${it.kind} from rank ${it.from}`);
+      this.frameCells(it.from, it.begins, it.bytes, `taken ${it.kind}`, `${it.kind} to rank ${it.to}`);
+      it.kind !== "message" && this.frameCells(it.to, it.lands, it.bytes, `brought ${it.kind}${hasLanded ? "" : " asked"}`, `${it.kind} from rank ${it.from}`);
     }
   }
 
-  markCells(rank, address, count, words, title) {
+  frameCells(rank, address, count, words, title) {
     const found = address === undefined ? undefined : this.cells.get(rank)?.find(({ box }) => holds(box, address));
     const [begin, end] = found === undefined ? [0, 0] : [address - found.box.address, address - found.box.address + count];
     for (const cell of found?.cell.querySelectorAll(".cell") ?? []) {
       if (Number(cell.dataset.at) < end && Number(cell.dataset.at) + Number(cell.dataset.size) > begin) {
+        this.framed.has(cell) || this.framed.set(cell, cell.title);
         cell.classList.add(...words.split(" "));
         cell.title = cell.title === "" ? title : cell.title.includes(title) ? cell.title : `${cell.title}, ${title}`;
       }

@@ -1,4 +1,4 @@
-"""Hand-ins that try more than to be right: to read what is not theirs, to take all that there is, and to be taken for something else."""
+"""Hostile hand-ins, which try to read other files, to use up all memory or disk, or to pass as something else."""
 
 from __future__ import annotations
 
@@ -178,7 +178,7 @@ def unsearched(tally: Tally, folder: pathlib.Path) -> None:
     bench.write("long.c", TAKES_LONG)
     bench.write("dodges.c", DODGES)
     for kind, sheet, name, status, wanted in (
-        ("finds races slowly", "races.toml", "right.c", NOT_MARKED, ("not judged", "the search for bytes that two requests write did not end in")),
+        ("finds races slowly", "races.toml", "right.c", NOT_MARKED, ("not judged", "the search for bytes that two requests write did not end in 3 s")),
         ("is impatient", "sheet.toml", "long.c", NOT_MARKED, ("not judged", "the trial of what BSPlib leaves open did not end in 3 s")),
         ("is patient", "sheet.toml", "dodges.c", NOT_ALL_RIGHT, ("not portable", "it fails if it is compiled for this trial")),
     ):

@@ -3,6 +3,7 @@
 from __future__ import annotations
 
 import argparse
+import concurrent.futures
 import itertools
 import pathlib
 import subprocess
@@ -79,7 +80,7 @@ class Subject(NamedTuple):
         """The most instructions of a node in the run as it is."""
         return int(self.settings[self.settings.index("--limit") + 1])
 
-    def begin(self, file: pathlib.Path) -> emulator.Run:
+    def begin(self, file: pathlib.Path) -> concurrent.futures.Future[subprocess.CompletedProcess[bytes]]:
         """Begins a run of the program as it is, which writes what is contested into a file."""
         workers = ["--workers", str(self.options.workers)]
         return self.runs.begin([*self.program, "run", *self.settings, *workers, "--report", "--contested", str(file)])
@@ -133,7 +134,7 @@ class Stop(NamedTuple):
 class Begun(NamedTuple):
     """A run that was begun, the file into which it writes what is contested, if it does, and whether it is logged."""
 
-    run: emulator.Run
+    run: concurrent.futures.Future[subprocess.CompletedProcess[bytes]]
     file: pathlib.Path | None
     is_logged: bool
 

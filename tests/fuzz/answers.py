@@ -1,4 +1,4 @@
-"""What one start of the program answers, and what the rules of the exit status say of it."""
+"""The output and status of one start of the program, and whether the rules of the exit status allow them."""
 
 from __future__ import annotations
 

@@ -1,4 +1,4 @@
-"""Starts of the program on files of a folder, and what is kept of the runs that break a rule."""
+"""Starts of the program on files of a folder; keeps the files of runs that break a rule."""
 
 from __future__ import annotations
 

@@ -1,4 +1,4 @@
-"""What compressed instructions expand to, written from the manual's listings and the rules, apart from the program."""
+"""The expansion of compressed instructions, written from the manual and the rules, independently of the program."""
 
 from __future__ import annotations
 

@@ -1,4 +1,4 @@
-"""Contested bytes of exchanges by the model, and whether the emulator's lines list just these."""
+"""Contested bytes of exchanges by the model, and whether the emulator lists exactly these."""
 
 from __future__ import annotations
 

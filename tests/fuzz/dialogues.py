@@ -1,4 +1,4 @@
-"""Lines for the debugger, and what the rules of its language say of the reply to each."""
+"""Lines for the debugger, and the replies that the rules of its language allow."""
 
 from __future__ import annotations
 

@@ -1,4 +1,4 @@
-"""Exposed bytes of supersteps by the model, and whether the emulator's lines tell of just these.
+"""Exposed bytes of supersteps by the model, and whether the emulator lists exactly these.
 
 What BSPlib says of each call is taken as times here: the parts of a superstep in which it reads at the latest, and writes at the earliest.
 """

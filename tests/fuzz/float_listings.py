@@ -1,4 +1,4 @@
-"""Instructions of floating point: words and statements of them, listed with their names and assembled again."""
+"""Words and statements of floating-point instructions, listed with their names and assembled again."""
 
 from __future__ import annotations
 

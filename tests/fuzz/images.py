@@ -1,4 +1,4 @@
-"""ELF files: how they are made and spoiled, and what the rules of their reading say of each."""
+"""ELF files: makes and damages them, and computes the fault or the image that the rules give for each."""
 
 from __future__ import annotations
 

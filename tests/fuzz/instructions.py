@@ -1,4 +1,4 @@
-"""Words and halfwords of instructions, real ones and spoiled ones, and their statements as a listing spells them."""
+"""Words and halfwords of instructions, valid and damaged ones, and their statements as a listing spells them."""
 
 from __future__ import annotations
 

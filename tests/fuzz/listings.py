@@ -1,4 +1,4 @@
-"""Listings: which lines they have, and what these give when they are assembled again."""
+"""Listings: the lines that they must have, and the bytes that these lines give when they are assembled again."""
 
 from __future__ import annotations
 

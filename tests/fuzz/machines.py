@@ -1,4 +1,4 @@
-"""A model of the whole machine, written from the rules, apart from the program: its calls, its exchanges, its report."""
+"""A model of the whole machine, written from the rules, independently of the program: its calls, exchanges and report."""
 
 from __future__ import annotations
 

@@ -1,4 +1,4 @@
-"""Programs of several nodes, whose calls have operands at edges, and of which many come to exchanges."""
+"""Programs of several nodes, whose calls have operands at edges; many of them reach an exchange."""
 
 from __future__ import annotations
 

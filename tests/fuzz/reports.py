@@ -1,4 +1,4 @@
-"""The lines of a report, of a profile and of counts, as the rules have them, and what has to hold between them."""
+"""The lines of a report, of a profile and of counts by the rules, and the relations between them."""
 
 from __future__ import annotations
 

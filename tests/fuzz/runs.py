@@ -1,4 +1,4 @@
-"""The kinds of runs over programs of several nodes, and over what the debugger is asked."""
+"""The kinds of runs over programs of several nodes, and over the debugger's commands."""
 
 from __future__ import annotations
 

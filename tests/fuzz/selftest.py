@@ -1,4 +1,4 @@
-"""Changes one thing after another in the program's answers, and looks whether the fuzzer finds each."""
+"""Makes one change after another in the program's answers, and checks that the fuzzer finds each."""
 
 from __future__ import annotations
 

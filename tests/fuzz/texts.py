@@ -1,4 +1,4 @@
-"""Texts for the assembler: of random tokens, of lines that mean something, and of what a listing spells."""
+"""Texts for the assembler: random tokens, meaningful lines, and statements as a listing spells them."""
 
 from __future__ import annotations
 

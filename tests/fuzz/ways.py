@@ -1,4 +1,4 @@
-"""One run made in several ways, which all have to come to the same end."""
+"""One run made in several ways, which all must have the same end."""
 
 from __future__ import annotations
 

@@ -1,4 +1,4 @@
-"""Random command lines, and what the rules say of those that they judge."""
+"""Random command lines, and the result that the rules give for those that they decide."""
 
 from __future__ import annotations
 

@@ -1,4 +1,4 @@
-"""The prover: it is asked for single functions in copies of crates, and says which goals fail."""
+"""Asks the prover about single functions in copies of crates, and returns the goals that fail."""
 
 from __future__ import annotations
 

@@ -1,4 +1,4 @@
-"""The record: at which sources all mutants of a crate were refused, and which mutants are tried again although nothing has changed."""
+"""The record: the sources at which all mutants of a crate were refused, and the mutants that are tried again although nothing has changed."""
 
 from __future__ import annotations
 

@@ -1,4 +1,4 @@
-"""Trials: mutants and controls of crates, tried side by side as the crates come."""
+"""Trials of mutants and controls, in parallel, crate by crate as their libraries are built."""
 
 from __future__ import annotations
 

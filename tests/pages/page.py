@@ -1,4 +1,4 @@
-"""The commands of a page, and what stands there of what they write.
+"""The commands of a page, and their output as the page shows it.
 
 A fenced block is what the first word behind its fence says:
 

@@ -1,4 +1,4 @@
-"""Pictures that a page shows, beside those that its commands draw into the folder `pictures`, and those that were drawn by hand."""
+"""Pictures of a page: those that its commands draw into the folder `pictures`, compared with the page's, and those drawn by hand."""
 
 from __future__ import annotations
 

@@ -1,4 +1,4 @@
-"""Commands as they are typed at a scratch copy's top, with what they write and their statuses."""
+"""Runs a page's commands at the top of a scratch copy, and keeps their output and statuses."""
 
 from __future__ import annotations
 

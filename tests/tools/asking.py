@@ -1,4 +1,4 @@
-"""A stand-in for a tool, which has a process that has loaded the tool make the run.
+"""A stand-in for a tool, which asks a process that has loaded the tool to make the run.
 
 Usage: `python3 -I -S -B asking.py SOCKET NAME WORDS..`.
 

@@ -1,4 +1,4 @@
-"""What the checks of the tools share: what they count and tell, what they skip, and parts that run side by side.
+"""Code that the checks of the tools share: counting and reporting, skipping, and parts that run in parallel.
 
 A check prints a line for each thing that fails, with what was wrong; a line for each part whose tool is not here; and at last
 `N passed, M failed, K skipped`. Its status is 1 if something failed, and 0 if nothing did.

@@ -1,4 +1,4 @@
-"""How a check ends that a signal ends: its scratch folders are removed, as at its end. Parts that are under way come to their own end first."""
+"""Ends a check that a signal interrupts: its scratch folders are removed, as at its normal end."""
 
 from __future__ import annotations
 

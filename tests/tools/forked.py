@@ -1,4 +1,4 @@
-"""Runs of the tools by processes that have loaded them already.
+"""Runs of the tools in processes that have already loaded them.
 
 Most of the time of a short run goes into starting Python and loading parts. A check that looks at what a tool tells, and not at how it
 starts and ends, makes its runs so. One process, which has loaded the tools, is asked for a run over a socket, and splits off a child that

@@ -1,4 +1,4 @@
-"""Lanes: how many parts of checks are made at a time, over all the checks that run side by side.
+"""Lanes: the number of parts that run at a time, over all checks that run in parallel.
 
 The gate makes a pipe with a name, which has a byte for each lane that is free, and gives each check that it starts one lane. Whatever else
 the check makes at the same time takes another one, and gives it back. A check that is run by itself has a lane for each processor.

@@ -1,4 +1,4 @@
-"""What the English of pages keeps to: no sentence of more than 40 words, and none of some phrases that were translated word by word."""
+"""Rules for the English of pages: no sentence of more than 40 words, and no phrases that were translated word by word."""
 
 from __future__ import annotations
 

@@ -1,4 +1,4 @@
-"""Chromium without a window, led over a pipe by its DevTools protocol: pages, scripts in them, keys, widths and pictures."""
+"""Chromium without a window, controlled over a pipe by its DevTools protocol: pages, scripts in them, keys, widths and pictures."""
 
 from __future__ import annotations
 

@@ -1,4 +1,4 @@
-"""The page in which programs run, in Chromium from a file: what people do there, and what a hostile program or link can do."""
+"""The page in which programs run, in Chromium from a file: actions of users, and attacks by hostile programs and links."""
 
 from __future__ import annotations
 

@@ -1,4 +1,4 @@
-"""What the program answers on random files, so that the emulator in a browser can be asked the same."""
+"""The program's answers on random files, to compare with those of the emulator in a browser."""
 
 from __future__ import annotations
 

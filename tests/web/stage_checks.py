@@ -1,4 +1,4 @@
-"""Pages of runs, in Chromium from files: what they show, beside the native debugger, profile and report.
+"""Pages of runs, in Chromium from files, compared with the native debugger, profile and report.
 
 Also moves, links and mistakes; many ranks and supersteps; widths, print, keys and labels; hostile names and contents.
 """

@@ -3,6 +3,8 @@
 from __future__ import annotations
 
 import argparse
+import builtins
+import keyword
 import os
 import pathlib
 import shlex
@@ -14,6 +16,9 @@ from ._runs import expect_free, made
 from ._tools import BspError
 
 HELP = "%%bsp [-n P] [--profile] [--matrix] [--costs] [--g G] [--l L] [--name VARIABLE] [options of bsprun] [-- ARGS]"
+
+# What a notebook has in its variables for itself.
+OF_NOTEBOOK = ("get_ipython", "In", "Out", "exit", "quit")
 
 
 class Words(argparse.ArgumentParser):
@@ -38,6 +43,7 @@ def bsp(line: str, cell: str) -> Any:
         raise BspError(f"{line}: {error}; {HELP}") from error
     own = words[: words.index("--")] if "--" in words else words
     asked, options = reader.parse_known_args(own)
+    expect_variable(asked.name)
     expect_free(options)
     with children.folder("bspemu") as folder:
         source = folder / "cell.c"
@@ -45,6 +51,12 @@ def bsp(line: str, cell: str) -> Any:
         # The headers of a cell lie beside the notebook.
         run = made([*options, f"-I{os.getcwd()}", str(source), *words[len(own) + 1 :]], str(source), b"", check=True)
     show(run, asked)
+
+
+def expect_variable(name: str) -> None:
+    """Refuses a name that no variable has, or that would hide what the notebook or Python has under it."""
+    if not name.isidentifier() or keyword.iskeyword(name) or name in OF_NOTEBOOK or hasattr(builtins, name):
+        raise BspError(f"--name {name}: a run cannot have this name, give another one; {HELP}")
 
 
 def show(run: Any, asked: argparse.Namespace) -> None:

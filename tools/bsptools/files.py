@@ -113,8 +113,8 @@ def replaced(path: str | os.PathLike[str]) -> Iterator[str]:
     """
     _expect_own_link(path)
     target = os.path.realpath(path)
-    if os.path.exists(target) and not os.path.isfile(target):
-        yield os.fspath(path)
+    if os.path.exists(path) and not os.path.isfile(path):
+        yield _name_elsewhere(os.fspath(path))
         return
     folder = os.path.dirname(target)
     beside = os.path.join(folder, beside_name())
@@ -131,6 +131,17 @@ def replaced(path: str | os.PathLike[str]) -> Iterator[str]:
         with contextlib.suppress(OSError):
             os.unlink(beside)
         os.close(number)
+
+
+def _name_elsewhere(path: str) -> str:
+    """The name by which another process opens what is no regular file. /dev/stdout and /dev/fd/63 are something else in each process, and
+    what a pipe's link there leads to is no path."""
+    for _ in range(MOST_LINKS):
+        target = os.path.join(os.path.dirname(path), os.readlink(path)) if os.path.islink(path) else ""
+        if not os.path.exists(target):
+            break
+        path = target
+    return os.path.join(os.path.realpath(os.path.dirname(path)), os.path.basename(path))
 
 
 def _expect_same(number: int, beside: str, path: str | os.PathLike[str]) -> None:

@@ -30,11 +30,12 @@ def at_most(more: int) -> Iterator[None]:
     that are started in it have the bound too. `Unfit` is raised if it takes too long, and in each later block at once."""
     if _overran:
         raise Unfit("it takes too long to read")
-    pages = int(pathlib.Path("/proc/self/statm").read_text(encoding="ascii").split()[0])
     soft, hard = resource.getrlimit(resource.RLIMIT_AS)
-    most = pages * resource.getpagesize() + more
     _outside.append((soft, hard))
-    resource.setrlimit(resource.RLIMIT_AS, (most if soft == resource.RLIM_INFINITY else min(most, soft), hard))
+    # Without /proc the size of this process is not known, and time alone is limited.
+    with contextlib.suppress(FileNotFoundError):
+        most = int(pathlib.Path("/proc/self/statm").read_text(encoding="ascii").split()[0]) * resource.getpagesize() + more
+        resource.setrlimit(resource.RLIMIT_AS, (most if soft == resource.RLIM_INFINITY else min(most, soft), hard))
     try:
         with _timed():
             yield

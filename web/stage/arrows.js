@@ -22,19 +22,22 @@ class Arrows {
     const shown = arrows.length > MOST_ARROWS ? merged(arrows, isMixed) : arrows.map((it) => ({ ...it, label: labelOf(it, isMixed) }));
     this.hasLabels = shown.length <= MOST_LABELS;
     const box = this.frame.getBoundingClientRect();
+    // A page that is printed is zoomed, and the picture with it.
+    this.zoom = Number(document.body.style.zoom) || 1;
     const [width, height] = [this.frame.scrollWidth, this.frame.scrollHeight];
     this.picture.setAttribute("width", String(width));
     this.picture.setAttribute("height", String(height));
     this.picture.setAttribute("viewBox", `0 0 ${width} ${height}`);
     this.labels = [];
-    this.box = { x: box.x - this.frame.scrollLeft, y: box.y - this.frame.scrollTop, width };
+    this.box = { x: box.x - this.frame.scrollLeft * this.zoom, y: box.y - this.frame.scrollTop * this.zoom, width };
     this.picture.replaceChildren(heads(), ...shown.flatMap((it) => this.arrow(it, landed)));
   }
 
   // Where a part of the stage is, in the picture.
   middle(element) {
     const box = element.getBoundingClientRect();
-    return { left: box.left - this.box.x, right: box.right - this.box.x, y: box.top + box.height / 2 - this.box.y };
+    const [left, right, y] = [box.left - this.box.x, box.right - this.box.x, box.top + box.height / 2 - this.box.y];
+    return { left: left / this.zoom, right: right / this.zoom, y: y / this.zoom };
   }
 
   arrow(it, landed) {

@@ -188,9 +188,14 @@ function beforePrint() {
   const { body, documentElement } = document;
   documentElement.classList.add("printing");
   body.style.width = `${PRINTED_WIDTH}px`;
-  moves?.seen && moves.arrowsAgain();
   const width = Math.max(PRINTED_WIDTH, $("stage").scrollWidth);
-  body.style.zoom = String(Math.min(PAPER_WIDTH / width, PAPER_HEIGHT / body.scrollHeight));
+  let zoom = Math.min(PAPER_WIDTH / width, PAPER_HEIGHT / body.scrollHeight);
+  // Smaller letters may break lines elsewhere, so that the height is not just smaller by the same factor.
+  for (let k = 0; k < 4; k++) {
+    body.style.zoom = String(zoom);
+    zoom *= Math.min(1, PAPER_HEIGHT / body.getBoundingClientRect().height);
+  }
+  moves?.seen && moves.arrowsAgain();
 }
 
 function afterPrint() {

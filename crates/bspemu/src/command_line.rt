@@ -111,7 +111,8 @@ const ASM_AFTER_HELP: &str = "If the text is refused, standard error has a line 
   TooLarge         the statement ends past 16777216 bytes
 docs/manual/assembly.md describes the whole language.";
 
-const DEBUG_AFTER_HELP: &str = "Commands, one a line, on standard input. In a pipe, all lines are read first, and then answered in order. At a terminal,
+const DEBUG_AFTER_HELP: &str =
+    "Commands, one a line, on standard input. In a pipe, all lines are read first, and then answered in order. At a terminal,
 and with --interactive or --framed, each command is answered before the next one is read:
   break RANK ADDR      set a breakpoint: go stops before this rank executes the instruction at this address
   break superstep K    set a breakpoint: go stops at the start of superstep K
@@ -217,9 +218,7 @@ fn debug_command<'a>(alloc: Global, formats: &'a [&'a str]) -> Result<Command<'a
     ensures { IfOk result (λ command. HasApp command (debug_app formats.entry)) }
 {
     machine_command(alloc, "debug", formats)?
-        .about(
-            "Debug a program: execute the commands on standard input, and write a reply to each",
-        )
+        .about("Debug a program: execute the commands on standard input, and write a reply to each")
         .after_help(DEBUG_AFTER_HELP)
         .arg(flag(alloc, "interactive", INTERACTIVE))?
         .arg(flag(alloc, "framed", FRAMED))

@@ -1,4 +1,4 @@
-"""What random scripts of BSPlib's calls come to, by the rules of the manual.
+"""The results of random scripts of BSPlib's calls, by the rules of the manual.
 
 It says each byte of each rank's memory, each answer, and h and m of each superstep, by docs/manual/machine.md and docs/manual/c.md. It
 knows nothing of the library.

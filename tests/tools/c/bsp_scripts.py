@@ -1,4 +1,4 @@
-"""Scripts for scripts.c by chance, each a few supersteps of calls that are allowed, with what bsp_model.py says comes of them."""
+"""Random scripts for scripts.c, each a few supersteps of allowed calls, with their results by bsp_model.py."""
 
 from __future__ import annotations
 

@@ -1,4 +1,4 @@
-"""What tests/tools/c/digits.c reads, and what it has to print.
+"""The input of tests/tools/c/digits.c, and the output that it must print.
 
 There are numbers of all sizes by formats of all kinds, and numbers that lie halfway between two, or a little beside that. Python prints and
 reads numbers exactly.

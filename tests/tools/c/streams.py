@@ -1,4 +1,4 @@
-"""Random lines for streams.cpp: texts and files that are read and written step by step, with manipulators, places and states."""
+"""Random lines for streams.cpp: texts and files that are read and written step by step, with manipulators, positions and states."""
 
 from __future__ import annotations
 

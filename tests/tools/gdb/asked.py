@@ -1,4 +1,4 @@
-"""Cases of what is asked of a run's past: who wrote bytes, and what was sent. For tests/tools/gdb/run."""
+"""Cases of questions about the past of a run: who wrote bytes, and which requests were made."""
 
 from __future__ import annotations
 

@@ -1,4 +1,4 @@
-"""Cases of assembly texts, for tests/tools/gdb/run: their labels and lines in gdb, which has them from a file that bspgdb writes."""
+"""Cases of assembly texts, for tests/tools/gdb/run: their labels and lines in gdb, which reads them from a file of bspgdb."""
 
 from __future__ import annotations
 

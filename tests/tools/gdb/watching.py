@@ -1,4 +1,4 @@
-"""Cases of watched variables, for tests/tools/gdb/run: each of its own rank, whatever the others do."""
+"""Cases of watched variables, for tests/tools/gdb/run: each watches its own rank, whatever the others do."""
 
 from __future__ import annotations
 

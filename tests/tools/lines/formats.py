@@ -1,4 +1,4 @@
-"""The forms of costs, each read by the program that it is for.
+"""The formats of costs, each read by the program for which it is made.
 
 If there is no such program, it is read by what its description says. The sums are those of the report.
 """

@@ -1,4 +1,4 @@
-"""Hand-ins that try more than to be right: to read what is not theirs, to take all that there is, and to be taken for something else."""
+"""Hostile hand-ins, which try to read other files, to use up all memory or disk, or to pass as something else."""
 
 from __future__ import annotations
 
@@ -63,11 +63,11 @@ def programs(secret: str, sheet: str) -> Dict[str, Tuple[str, str, str]]:
         "proc.c": (PROGRAM % (INCBIN % "/proc/self/environ", "fputs(stolen, stdout);"), "does not compile", "file not found"),
         "wild.c": (PROGRAM % ("", f'fputs("{WILD}\\n", stdout);'), "wrong output", "line 1 of the output is"),
         "wild_abort.c": (PROGRAM % ("", f'bsp_abort("{WILD}\\n");'), "stopped", "it gave up"),
-        "nul.c": ("int main(void) { return 0; }\n\0", "no program", "the file is no text"),
+        "nul.c": ("int main(void) { return 0; }\n\0", "no program", "the file is not text"),
         "large.c": ("/*" + "x" * (1 << 20) + "*/\n", "no program", "more than"),
         "bomb.c": ("char x[1 << 30] = {1};\n" + PROGRAM % ("", "putchar(x[5]);"), "does not compile", ""),
         "deep.c": (PROGRAM % ("#define A(x) x x x x x x x x\n#define B(x) A(A(A(x)))\n#define C(x) B(B(B(x)))\n", "C(C(puts(\"a\");))"), "does not compile", ""),
-        "flood.c": (PROGRAM % ("", 'for (;;) puts("more");'), "too much output", "prints without an end"),
+        "flood.c": (PROGRAM % ("", 'for (;;) puts("more");'), "too much output", "does not stop printing"),
         "syncs.c": (PROGRAM % ("", "for (;;) bsp_sync();"), "endless", "is it an endless loop?"),
         "sends.c": (PROGRAM % ("static char x[1 << 16];", "for (;;) bsp_send(0, NULL, x, sizeof x);"), "stopped", "bytes in a superstep"),
         "=1+1.c": (PROGRAM % ("", 'puts("=1+1");'), "wrong output", "line 1 of the output is `=1+1`"),
@@ -178,9 +178,9 @@ def unsearched(tally: Tally, folder: pathlib.Path) -> None:
     bench.write("long.c", TAKES_LONG)
     bench.write("dodges.c", DODGES)
     for kind, sheet, name, status, wanted in (
-        ("finds races slowly", "races.toml", "right.c", NOT_MARKED, ("not judged", "the search for bytes that two requests write came to no end")),
-        ("is impatient", "sheet.toml", "long.c", NOT_MARKED, ("not judged", "the trial of what BSPlib leaves open came to no end in 3 s")),
-        ("is patient", "sheet.toml", "dodges.c", NOT_ALL_RIGHT, ("not portable", "it does not end well where it is compiled for this trial")),
+        ("finds races slowly", "races.toml", "right.c", NOT_MARKED, ("not judged", "the search for bytes that two requests write did not end in 3 s")),
+        ("is impatient", "sheet.toml", "long.c", NOT_MARKED, ("not judged", "the trial of what BSPlib leaves open did not end in 3 s")),
+        ("is patient", "sheet.toml", "dodges.c", NOT_ALL_RIGHT, ("not portable", "it fails if it is compiled for this trial")),
     ):
         (bench.folder / "m.csv").unlink(missing_ok=True)
         words = [sys.executable, "-I", "-B", "-c", IMPATIENT, str(REPO / "tools"), kind, "--jobs", "1", "-o", "m.csv", sheet, name]

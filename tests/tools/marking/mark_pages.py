@@ -1,4 +1,4 @@
-"""The page of marks in a browser without a window, in the widths of a telephone and of a screen: nothing is cut off, rows unfold and are sorted."""
+"""The page of marks in a browser without a window, in the widths of a phone and a screen: nothing is cut off, rows unfold and are sorted."""
 
 from __future__ import annotations
 

@@ -1,4 +1,4 @@
-"""Pictures and texts for papers: points are where the table has them, regions where a program costs least, and misfits are refused."""
+"""Pictures and texts for papers: points and regions agree with the table, and options that do not suit it are refused."""
 
 from __future__ import annotations
 

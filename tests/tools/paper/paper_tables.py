@@ -1,4 +1,4 @@
-"""Tables of sweeps: their totals against the emulator's own reports, and the records from which they are made again."""
+"""Tables of sweeps: their totals against the emulator's reports, and the records from which they are made again."""
 
 from __future__ import annotations
 

@@ -1,4 +1,4 @@
-"""What all parts of the check use: the tools that they need, folders, and runs of the repository's tools."""
+"""Code that all parts of the check use: the tools that they need, folders, and runs of the repository's tools."""
 
 from __future__ import annotations
 

@@ -1,4 +1,4 @@
-"""The page in a browser without a window: it loads without an error, stands in each width, and no text of it is cut off."""
+"""The page in a browser without a window: it loads without an error, fits each width, and no text is cut off."""
 
 from __future__ import annotations
 

@@ -1,4 +1,4 @@
-"""A Slurm of two nodes, and a host that ssh leads to, both faked by this one, with their daemons and all of their files in a folder."""
+"""A Slurm of two nodes, and an ssh host, both simulated by this host, with their daemons and all of their files in a folder."""
 
 from __future__ import annotations
 

@@ -1,4 +1,4 @@
-"""Colours that are side by side in a picture can be told apart: by everyone, in grey, and with each kind of colour blindness.
+"""Adjacent colours of a picture can be distinguished: by everyone, in grey, and with each kind of colour blindness.
 
 What protanopes and deuteranopes see is simulated by the matrices for a severity of 1 of G. M. Machado, M. M. Oliveira and L. A. F.
 Fernandes, "A physiologically-based model for simulation of color vision deficiency", IEEE Transactions on Visualization and Computer

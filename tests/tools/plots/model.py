@@ -1,5 +1,5 @@
 #!/usr/bin/env python3
-"""The profile of a run by the debugger's lines alone, to compare with what `run --profile` writes.
+"""The profile of a run, from the debugger's replies alone, to compare with the one that `run --profile` writes.
 
 Ticks and states are what `regs` shows at the end of each superstep's local part, and bytes are counted from the calls at which the ranks
 stop.

@@ -1,4 +1,4 @@
-"""Pictures of profiles: each bar stands where the profile has it, and each number is the profile's."""
+"""Pictures of profiles: each bar and each number agrees with the profile."""
 
 from __future__ import annotations
 

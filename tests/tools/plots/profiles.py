@@ -1,4 +1,4 @@
-"""Profiles of runs by the emulator: they are those of the model and of the report; a profile that is damaged is refused."""
+"""Profiles of runs agree with the model and with the report, and a damaged profile is refused."""
 
 from __future__ import annotations
 

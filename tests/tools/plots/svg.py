@@ -1,4 +1,4 @@
-"""Reads pictures as SVG: their marks with what is told of them and where they stand, and their texts."""
+"""Reads pictures as SVG: their marks, with titles and positions, and their texts."""
 
 from __future__ import annotations
 

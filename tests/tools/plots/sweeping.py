@@ -1,4 +1,4 @@
-"""Sweeps: each engine gives the table of the plain one, no run is made twice, and a check finds what differs."""
+"""Sweeps: each engine gives the same table as the plain one, no run is made twice, and a check finds differences."""
 
 from __future__ import annotations
 

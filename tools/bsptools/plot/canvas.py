@@ -5,6 +5,7 @@ from __future__ import annotations
 import contextlib
 import html
 import io
+import os
 import pathlib
 import re
 import textwrap
@@ -103,6 +104,8 @@ class Picture:
 @contextlib.contextmanager
 def drawing() -> Iterator[None]:
     """Refuses what matplotlib cannot draw, as a picture that is too large. It also warns of a font that lacks a letter: a box stands for that."""
+    # No picture has a date, but matplotlib would refuse one that it cannot read.
+    os.environ.pop("SOURCE_DATE_EPOCH", None)
     with warnings.catch_warnings():
         warnings.simplefilter("ignore", UserWarning)
         try:

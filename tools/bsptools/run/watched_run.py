@@ -223,9 +223,10 @@ class Watch:
             return self._run([*words, "--live"])
         # The emulator tells the output of a run with a profile at its end.
         with files.replaced(options.profile) as written:
-            with files.as_text(written) as name, children.removed(written) if written != options.profile else contextlib.nullcontext():
+            is_new = os.path.isfile(written)
+            with files.as_text(written) as name, children.removed(written) if is_new else contextlib.nullcontext():
                 done = self._run([*words, "--profile", name])
-                if written != options.profile and (done.status == UNWRITTEN or done.status < 0):
+                if is_new and (done.status == UNWRITTEN or done.status < 0):
                     # There is a part of it at the most, and what stands in its place stays.
                     os.truncate(written, 0)
                 return done

@@ -1,5 +1,5 @@
 #!/usr/bin/env python3
-"""Programs of hosted/, in more styles in which they are found.
+"""Programs of hosted/, in more of the styles in which people write them.
 
 Each is built as it is and run with default options, and writes what it does on
 the host.

@@ -1,4 +1,4 @@
-"""Programs that compute in a `long`, which has 64 bits elsewhere, by default options.
+"""Programs that compute with a `long`, which has 64 bits elsewhere, with default options.
 
 Where something does not fit it is told behind the run, which is as it is without that.
 """

@@ -1,4 +1,4 @@
-"""Programs of ported/, in the styles in which they are found.
+"""Programs of ported/, in the styles in which people write them.
 
 They have files in and out, prompts, C of each age and C++, and projects for make and for CMake. Each is built as it is, and run with
 default options.

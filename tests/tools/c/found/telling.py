@@ -1,4 +1,4 @@
-"""Files that programs write, what they are given, and mistakes that would pass in silence."""
+"""Files that programs write, files that they are given, and mistakes that other systems do not report."""
 
 from __future__ import annotations
 

@@ -1,4 +1,4 @@
-"""Changes by chance of files that the tools read: of bytes, of numbers, of lines."""
+"""Random changes of files that the tools read: of bytes, of numbers, of lines."""
 
 from __future__ import annotations
 

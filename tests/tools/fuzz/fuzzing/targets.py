@@ -1,4 +1,4 @@
-"""What is given changed files: the tools' readers, called by themselves; and the commands, each in a process of its own."""
+"""Gives changed files to the tools' readers, by direct calls, and to the commands, each in its own process."""
 
 from __future__ import annotations
 

@@ -1,4 +1,4 @@
-"""What an area is: a program that makes calls, and what they are made by."""
+"""An area: a program that makes calls, and the generator of its calls."""
 
 from __future__ import annotations
 

@@ -1,4 +1,4 @@
-"""Values made by chance, with those at edges among them, and how they are spelled in a call."""
+"""Random values, some of them at edges, and their spelling in a call."""
 
 from __future__ import annotations
 

@@ -1,4 +1,4 @@
-"""Scripts of standard input: of programs that read it from its beginning to its end, and of those that go back in it."""
+"""Scripts of standard input, for programs that read it once and for programs that seek in it."""
 
 from __future__ import annotations
 

@@ -1,4 +1,4 @@
-"""Calls of functions that read numbers in texts, and of those of whole numbers."""
+"""Calls of functions that read numbers from texts, and of integer functions."""
 
 from __future__ import annotations
 

@@ -1,4 +1,4 @@
-"""Calls of printf and all that are like it."""
+"""Calls of printf and similar functions."""
 
 from __future__ import annotations
 

@@ -1,4 +1,4 @@
-"""Calls of scanf and all that are like it."""
+"""Calls of scanf and similar functions."""
 
 from __future__ import annotations
 

@@ -1,4 +1,4 @@
-"""Calls of qsort, bsearch and of what search.h has."""
+"""Calls of qsort, bsearch and the functions of search.h."""
 
 from __future__ import annotations
 

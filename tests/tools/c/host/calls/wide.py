@@ -1,4 +1,4 @@
-"""Calls of wchar.h, wctype.h and of the conversions of stdlib.h, in the locale C."""
+"""Calls of wchar.h, wctype.h and the conversions of stdlib.h, in the locale C."""
 
 from __future__ import annotations
 

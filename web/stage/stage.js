@@ -176,13 +176,13 @@ class Stage {
   /** Frames the cells whose bytes requests take, and those to which they bring some, and no others. @param {any[]} arrows @param {boolean} hasLanded */
   frame(arrows, hasLanded) {
     for (const [cell, title] of this.framed) {
-      cell.classList.remove("taken", "brought", "asked", "put", "get", "message");
+      cell.classList.remove("taken", "brought", "asked", "by-put", "by-get", "by-message");
       cell.title = title;
     }
     this.framed.clear();
     for (const it of arrows.slice(0, MOST_TOUCHING)) {
-      this.frameCells(it.from, it.begins, it.bytes, `taken ${it.kind}`, `${it.kind} to rank ${it.to}`);
-      it.kind !== "message" && this.frameCells(it.to, it.lands, it.bytes, `brought ${it.kind}${hasLanded ? "" : " asked"}`, `${it.kind} from rank ${it.from}`);
+      this.frameCells(it.from, it.begins, it.bytes, `taken by-${it.kind}`, `${it.kind} to rank ${it.to}`);
+      it.kind !== "message" && this.frameCells(it.to, it.lands, it.bytes, `brought by-${it.kind}${hasLanded ? "" : " asked"}`, `${it.kind} from rank ${it.from}`);
     }
   }
 

@@ -98,7 +98,7 @@ def imported(check: Check) -> None:
     check.expect("figures", lines[5:8] == ["matplotlib.figure True"] * 3, lines[5:8])
     check.expect("files and input", lines[8] == "{'a.txt': b'7'} ", lines[8])
     wanted: List[Tuple[int, str]] = [(1, "none.c"), (2, "ended with status 3"), (1, "none.c"), (1, "the table has no column N")]
-    wanted += [(1, "'5' are no prices that belong together"), (1, "'a' is no price"), (1, "--report is not for runs from Python")]
+    wanted += [(1, "'5' is not a pair of prices"), (1, "'a' is not a price"), (1, "--report is not for runs from Python")]
     for line, (status, text) in zip(lines[9:16], wanted):
         found = json.loads(line)
         check.expect(f"the exception of {text}", found[0] == status and text in found[1] and found[2] == (status == 2), line)

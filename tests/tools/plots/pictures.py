@@ -459,7 +459,7 @@ def printing(check: Check) -> None:
     check.expect("a profile that does not tell of printing", right, refused.stderr)
     source.write_text(source.read_text().replace("synced,10", "synced,13"))
     refused = check.tool("bspplot", "--costs", "costs.svg", str(source))
-    check.expect("more printing than work", "no whole number up to 12" in refused.stderr and refused.returncode == 1, refused.stderr)
+    check.expect("more printing than work", "not a whole number up to 12" in refused.stderr and refused.returncode == 1, refused.stderr)
 
 
 def counted(check: Check) -> None:

@@ -338,7 +338,7 @@ def forged(check: Check) -> None:
     check.expect("no ticket is left", not list(path.parent.glob("*.ticket")), list(path.parent.iterdir()))
     homeless = {"HOME": None, "XDG_STATE_HOME": None}
     done = check.tool("bspsweep", *words, environment=homeless)
-    right = done.stdout == text and done.stderr.startswith("bspsweep: no key can be kept for your results")
+    right = done.stdout == text and done.stderr.startswith("bspsweep: cannot save a key for your results")
     check.expect("no place for a key", right and "1 of 1 run done" in done.stderr, done)
     done = check.tool("bspsweep", "--script", *words, environment=homeless)
     check.expect("a script without a key", done.returncode == 1 and not done.stdout, done)
@@ -364,7 +364,7 @@ def keys(check: Check) -> None:
         path.write_bytes(content)
         done = check.tool("bspsweep", "--make", str(place), "run")
         told = (place / "run.failed").read_text() if (place / "run.failed").exists() else ""
-        right = done.returncode == 1 and "is not what it was" in told and not (place / "run.json").exists()
+        right = done.returncode == 1 and "has changed since the sweep began" in told and not (place / "run.json").exists()
         check.expect(f"a run whose {path.name} was changed", right, done.stderr + told)
         path.write_bytes(before)
 

@@ -29,8 +29,9 @@ def parser() -> Parser:
         description="Measures r, g and l of this computer for the BSP model.\n\n"
         "  bspprobe --instructions -o machines.txt\n"
         "  BSP_MACHINES=machines.txt bsprun --machine NAME-4 FILE.c\n\n"
-        "r is its operations a second, g the cost of a word in an h-relation, and l the cost of a superstep. For each number of processes, bspprobe"
-        " times h-relations and fits a line to the times, as the program bspbench of BSPedupack does. It prints one line for each number of"
+        "r is the number of operations per second, g the price of a word in an h-relation, and l the price of the barrier at the end of a"
+        " superstep. (bsprun --g is the price of a byte. bsprun --machine divides g by the bytes of a word, --word.) For each number of processes,"
+        " bspprobe times h-relations and fits a line to the times, as the program bspbench of BSPedupack does. It prints one line for each number of"
         " processes. Add these lines to your machines' file, which BSP_MACHINES in the environment names: bsprun --machine takes its prices from"
         " there. docs/manual/native.md is the manual.",
     )

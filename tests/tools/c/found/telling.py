@@ -172,7 +172,7 @@ class Telling:
             line = next(i for i, text in enumerate(marked, 1) if text.endswith(f"/* {number} */"))
             done = self.run("-n", "2", *case.options, image, str(number))
             self.expect(f"told {number}", done, done.returncode, *case.said.split(" .. "), *([f"silent.c:{line}"] if case.has_line else []))
-        self.expect("no argument", self.run(image), 2, "atoi is given NULL", "bsprun PROGRAM 100", "silent.c:")
+        self.expect("no argument", self.run(image), 2, "atoi was called with NULL", "bsprun PROGRAM 100", "silent.c:")
         (self.folder / "often.c").write_text(OFTEN)
         said = "read in superstep 41, before bsp_sync, by rank 0 at main, often.c:12; the get is that of rank 0 at main"
         for kind in "int", "float", "double":

@@ -1,14 +1,14 @@
   $ bspemu list --help
-  Write each word of a program with its address and its instruction
+  List a program: each word with its address and its instruction
   
   Usage: bspemu list [OPTIONS] <IMAGE>
   
   Arguments:
-    <IMAGE>  File with the program; - for standard input
+    <IMAGE>  Program file, or - for standard input
   
   Options:
         --format <FORMAT>  Format of IMAGE: elf, an ELF executable; raw, the bytes of memory from address 0; asm, an assembly text [default: elf]
-        --float            Name instructions of floating point, as on nodes with units for them; without it they are data
-        --atomic           Name instructions of A; without it they are data
-        --large            Read a program that only a large machine takes: a file of at most 268435456 bytes
+        --float            Show floating-point instructions by name; without this option they are data
+        --atomic           Show instructions of A by name; without this option they are data
+        --large            Accept a file of up to 268435456 bytes, as a large machine does
     -h, --help             Print help

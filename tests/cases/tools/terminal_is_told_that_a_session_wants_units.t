@@ -14,4 +14,4 @@ Before a session with the debugger begins, since its status says nothing of node
   done 1
   rank 0 stopped: fault IllegalInstruction
   $ at-a-terminal "$REPO"/bspemu debug image --help | sed -n 1p
-  Run a program piece by piece: do what each line of standard input says, and write the answer
+  Debug a program: execute the commands on standard input, and write a reply to each

@@ -41,7 +41,7 @@ LINES = {
 }
 
 # How the parser of the command line begins what it says of a fault: its own word, or the help where there are no words.
-OF_THE_WORDS = (b"error: ", b"Emulator of a bulk synchronous parallel machine")
+OF_THE_WORDS = (b"error: ", b"Emulator of a bulk synchronous parallel (BSP) machine")
 
 
 @dataclasses.dataclass(frozen=True)

@@ -55,9 +55,9 @@ ACCESSES = "accesses of ranks to bytes of unbuffered calls"
 MOST_SUMMED = 1 << 22
 # How many pairs of places are told of each kind.
 MOST_PAIRS = 16
-NOT_LOOKED_FOR = (
-    "memory behind free", "addresses of variables on other ranks", "what main's own variables have before bsp_begin", "bsp_time",
-    "the order of the ranks' output", "numbers of another size",
+NOT_CHECKED = (
+    "use of memory after free", "addresses of variables on other ranks", "values of main's variables before bsp_begin", "bsp_time",
+    "the order of the ranks' output", "other sizes of numbers",
 )  # fmt: skip
 
 
@@ -82,7 +82,7 @@ class Verdict:
         told += [f"bsprun: accepted: {counted(self.accepted, 'pair')} of lines"] if self.accepted else []
         told += [f"bsprun: {it}" for it in self.notes]
         is_portable = self.is_whole and not self.found
-        return [*told, f"bsprun: {'portable in all that was looked for; ' if is_portable else ''}not looked for: {', '.join(NOT_LOOKED_FOR)}"]
+        return [*told, f"bsprun: {'portable, as far as checked; ' if is_portable else ''}not checked: {', '.join(NOT_CHECKED)}"]
 
 
 def has_one(code: Code, *names: str) -> bool:
@@ -263,7 +263,7 @@ class Portable:
         text have any bytes behind its end."""
         for choices in tried:
             if (found := self.difference(choices)) is not None:
-                self.verdict.notes.append(f"for information: where {described(choices)} the output is the same; {told_variable(found)}")
+                self.verdict.notes.append(f"note: if {described(choices)}, the output is the same; {told_variable(found)}")
                 return
 
     # Each kind of choice.
@@ -277,7 +277,7 @@ class Portable:
         base = self.base()
         if base != self.ended:
             difference = parted(self.ended, base)
-            lines = ["another output where code and variables lie elsewhere", f"then   {difference}"]
+            lines = ["other output if code and variables lie elsewhere", f"then   {difference}"]
             self.verdict.found.append(Finding([*lines, again(Choices(order=NUMBERED))]))
             if contested.first is not None:
                 self.verdict.found.append(Finding(told_contested(self.trace, contested.first, contested.places - 1)))
@@ -383,7 +383,7 @@ class Portable:
             self.find(findings.no_message(*found))
         if readers:
             who = f"rank {min(readers)} reads" if len(readers) == 1 else f"{len(readers)} ranks above 0 read"
-            self.verdict.notes.append(f"for information: {who} standard input, which other libraries may give to rank 0 alone")
+            self.verdict.notes.append(f"note: {who} standard input, which other libraries may give to rank 0 alone")
         self.registered()
 
     def registered(self) -> None:
@@ -397,7 +397,7 @@ class Portable:
                 if order != first and sorted(order) == sorted(first):
                     names = [", ".join(self.code.variable(it) or f"{it:#x}" for it in which) for which in (order, first)]
                     line = f"in superstep {superstep} rank {rank} registers {names[0]}, and rank 0 {names[1]}"
-                    self.verdict.notes.append(f"for information: {line}: areas belong together by their order")
+                    self.verdict.notes.append(f"note: {line}: areas belong together by their order")
                     return
 
     @functools.lru_cache(maxsize=1)
@@ -444,7 +444,7 @@ class Portable:
         choices, it = found
         if sums_of_messages.is_added(it, self.ended.last, self.trials.replays(Choices()), self.trials.replays(choices)):
             line = f"rank {it.rank} adds up the numbers of {len(it.numbers)} messages of superstep {it.superstep}, in another order to another sum"
-            self.verdict.notes.append(f"for information: {line}: --order {orders.spelled(choices)}")
+            self.verdict.notes.append(f"note: {line}: --order {orders.spelled(choices)}")
 
     def tag_size(self, superstep: int, rank: int) -> int:
         """How many bytes the tags of a rank have in a superstep of the run as it is."""
@@ -547,7 +547,7 @@ class Portable:
             return
         name = self.variables[count - 1].name
         difference = parted(self.ended, self.trials.run(choices))
-        self.verdict.notes.append(f"for information: ranks above 0 use what {name} is given before bsp_begin, which BSPlib lets rank 0 alone do; "
+        self.verdict.notes.append(f"note: ranks above 0 use what {name} is given before bsp_begin, which BSPlib lets rank 0 alone do; "
                                   f"otherwise {difference}: --order {orders.spelled(choices)}")  # fmt: skip
 
     def alone_with(self, count: int) -> Choices:
@@ -595,9 +595,9 @@ class Portable:
             except Refused:
                 continue
             if MORE_NODES not in ending.output:
-                output = "the same output" if ending.output == self.ended.output else "another output"
-                told.append(f"on {counted(nodes, 'node')} {output if ending.outcome == 'ended' else ending.outcome}")
-        self.verdict.notes += [f"for information: {', '.join(told)}"] if told else []
+                output = "same output" if ending.output == self.ended.output else "other output"
+                told.append(f"with {counted(nodes, 'node')}: {output if ending.outcome == 'ended' else ending.outcome}")
+        self.verdict.notes += [f"note: {', '.join(told)}"] if told else []
 
 
 def options_for(value: str) -> list[str]:

@@ -110,10 +110,10 @@ class Findings:
     def pair(self, choices: Choices, number: int, pair: Pair, other: Other | None) -> Finding:
         """Two places in the code that contest bytes, and what comes of the other order."""
         it = pair.first
-        head = "another output" if other is not None else "the same output"
+        head = "other output" if other is not None else "same output"
         both = sorted((it.last, it.other))
         made = [self.call_at(it.superstep, asked) for asked in both]
-        lines = [f"{head} where two requests of a superstep land in the other order"]
+        lines = [f"{head} if two requests of a superstep land in the other order"]
         lines[0] += f", and {described(choices)}" if choices != Choices() else ""
         more = f", and {counted(pair.count - 1, 'more place')}" if pair.count > 1 else ""
         lines.append(self.bytes_at(it.superstep, it.where, *(call.node for call in made)) + more)
@@ -138,13 +138,13 @@ class Findings:
     def no_message(self, superstep: int, it: Logged) -> Finding:
         """A bsp_move where no message is left."""
         where = self.place_behind(it)
-        lines = ["bsp_move takes a message from a queue that has none", f"superstep {superstep}, rank {it.rank}: at {where}"]
+        lines = ["bsp_move takes a message from an empty queue", f"superstep {superstep}, rank {it.rank}: at {where}"]
         return Finding([*lines, f"why    {WHY_EMPTY}"], (line_in(where),))
 
     def queue(self, other: Other) -> Finding:
         """A message of bsp_hpmove that is used once the next bsp_sync is over."""
         chosen = self.trials.first(other.choices, other.is_other)
-        lines = ["another output where messages of bsp_hpmove are other bytes once the next bsp_sync is over"]
+        lines = ["other output if messages of bsp_hpmove are other bytes once the next bsp_sync is over"]
         point = Point(chosen.until.superstep, chosen.until.rank, 0)
         taker = self.entries(self.trials.replays(Choices()), point, "__wrap_bsp_hpmove")
         where = place(self.code, taker.node) if taker is not None else ""
@@ -155,7 +155,7 @@ class Findings:
     def messages(self, other: Other, tag_sizes: Callable[[int, int], int]) -> Finding:
         """Two messages of which the order counts: where they were sent, and where they are taken. `tag_sizes` has the size of a tag by
         superstep and rank."""
-        lines = [f"another output where {described(other.choices)}"]
+        lines = [f"other output if {described(other.choices)}"]
         chosen = self.trials.first(other.choices, other.is_other)
         superstep, rank, index = chosen.until
         replays = self.trials.replays(chosen)
@@ -261,7 +261,7 @@ class Findings:
         """An unbuffered call of which the time counts."""
         chosen = self.trials.first(other.choices, other.is_other)
         call = self.entries(self.trials.replays(chosen), chosen.until, *CALLS)
-        lines = [f"something else where {described(other.choices)}", *self.entry(chosen.until, call)]
+        lines = [f"a difference if {described(other.choices)}", *self.entry(chosen.until, call)]
         lines += [f"then   {other.difference}", again(chosen)]
         return Finding([*lines, f"why    {WHY_UNBUFFERED}"])
 
@@ -269,7 +269,7 @@ class Findings:
         """A piece of malloc's memory of which the bytes count."""
         chosen = self.trials.first(other.choices, other.is_other)
         superstep, rank, index = chosen.until
-        lines = [f"something else where {described(other.choices)}"]
+        lines = [f"a difference if {described(other.choices)}"]
         piece = self.entries(self.trials.replays(chosen), chosen.until, "__wrap_malloc")
         if piece is not None:
             size = counted(piece.node.x[10], "byte")
@@ -280,12 +280,12 @@ class Findings:
     def stack(self, trials: Trials, choices: Choices, difference: str, said: list[str] | None = None, value: str = "") -> Finding:
         """A variable of a function that is used before it has a value: what GCC says of such, and where the runs part. `value` is what GCC gives
         such a variable, in a build with another one."""
-        lines = ["something else where a variable of a function that was given no value has other bytes"]
+        lines = ["a difference if an uninitialized variable of a function has other bytes"]
         for found in list(filter(None, map(UNSET.match, said if said is not None else self.warned())))[:MOST_TOLD]:
             lines.append(f"GCC    {pathlib.PurePath(found[1]).name}:{found[2]}: {found[3]}")
         divergence = first_divergence((self.trials, Choices()), (trials, choices))
         if divergence is not None:
-            lines.append(f"superstep {divergence.one.superstep}, rank {divergence.rank}: the first call that is another one")
+            lines.append(f"superstep {divergence.one.superstep}, rank {divergence.rank}: the first call that differs")
             lines.append(f"at     {divergence.where}: {divergence.one.told}")
             lines.append(f"before {divergence.other.told if divergence.other else 'no call'}")
         more = [again(choices)] if choices.stack else [f"again  give -ftrivial-auto-var-init={value} to bsprun or bspgdb"] if value else []
@@ -293,10 +293,10 @@ class Findings:
 
     def addresses(self, choices: Choices, difference: str) -> Finding:
         """An address of one rank that another one uses."""
-        lines = ["another output where stack and heap lie elsewhere on each rank"]
+        lines = ["other output if stack and heap lie elsewhere on each rank"]
         divergence = first_divergence((self.trials, Choices()), (self.trials, choices))
         if divergence is not None:
-            lines.append(f"superstep {divergence.one.superstep}, rank {divergence.rank}: the first call that is another one")
+            lines.append(f"superstep {divergence.one.superstep}, rank {divergence.rank}: the first call that differs")
             lines.append(f"at     {divergence.where}: {divergence.one.told}")
             lines.append(f"before {divergence.other.told if divergence.other else 'no call'}")
         places = (line_in(divergence.where),) if divergence is not None else ()
@@ -386,8 +386,8 @@ def described(choices: Choices) -> str:
     """What is chosen."""
     if choices.order:
         if choices.order == NUMBERED:
-            return f"messages come in another order (order {choices.seed})"
-        return "messages come in reverse" if choices.order == REVERSED else f"messages come shuffled (seed {choices.seed})"
+            return f"messages arrive in another order (order {choices.seed})"
+        return "messages arrive in reverse order" if choices.order == REVERSED else f"messages arrive shuffled (seed {choices.seed})"
     if choices.unbuffered:
         when = "at the call" if choices.unbuffered == EARLY else "at bsp_sync"
         return f"bsp_hpput and bsp_hpget read and write {when}"

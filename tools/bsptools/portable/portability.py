@@ -326,7 +326,7 @@ class Portable:
         self.trials.run_all([choices], is_contested=True)
         found, findings = self.trials.contested[choices], self.findings(choices)
         if found.places > len(found.rows):
-            self.leave_out(f"not tried: contested bytes behind the first {len(found.rows)} places")
+            self.leave_out(f"not tried: contested bytes after the first {len(found.rows)} places")
         all_made = pairs(found.rows, self.log if choices == Choices() else self.trials.log(choices))
         # Their numbers are those of all, as --order has them.
         made = [(number, it) for number, it in enumerate(all_made, 1) if it.places not in self.told_pairs]
@@ -354,9 +354,9 @@ class Portable:
         for row in untold:
             self.find(told_exposed(self.trace, row))
         if len(seen) > MOST_PAIRS:
-            self.leave_out(f"not told: {counted(len(seen) - MOST_PAIRS, 'more pair')} of lines that expose bytes")
+            self.leave_out(f"not reported: {counted(len(seen) - MOST_PAIRS, 'more pair')} of lines that expose bytes")
         if not self.exposures.is_whole:
-            self.leave_out(f"not told: exposed bytes behind the first {len(self.exposures.rows)} lines of the emulator")
+            self.leave_out(f"not reported: exposed bytes after the first {len(self.exposures.rows)} lines of the emulator")
         if any(step.has_unbuffered for step in self.log) and not seen and not untold:
             supersteps = counted(self.ended.last + 1, "superstep")
             self.verdict.exact.append(f"unbuffered calls: nothing exposed to other calls in {supersteps} (exact)")
@@ -482,7 +482,7 @@ class Portable:
         for race in touched[:MOST_PAIRS]:
             self.find(self.findings().touched(race, other))
         if len(touched) > MOST_PAIRS:
-            self.leave_out(f"not told: {counted(len(touched) - MOST_PAIRS, 'more unbuffered call')} whose bytes are written")
+            self.leave_out(f"not reported: {counted(len(touched) - MOST_PAIRS, 'more unbuffered call')} whose bytes are written")
         if touched:
             return
         if watched != self.ended and (rank := re.match(r"rank (\d+) stopped: aborted", watched.outcome)) is not None:
@@ -522,7 +522,7 @@ class Portable:
         for it in found[:MOST_PAIRS]:
             self.find(findings.accessed(it, other))
         if len(found) > MOST_PAIRS:
-            self.leave_out(f"not told: {counted(len(found) - MOST_PAIRS, 'more pair')} of lines, a call and an access to its bytes")
+            self.leave_out(f"not reported: {counted(len(found) - MOST_PAIRS, 'more pair')} of lines, a call and an access to its bytes")
         return bool(found)
 
     def addresses(self) -> None:

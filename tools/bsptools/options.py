@@ -18,12 +18,12 @@ UNITS = {"K": 1 << 10, "M": 1 << 20, "G": 1 << 30}
 COMPILED = {
     "-D": ("NAME[=VALUE]", "define a macro"),
     "-I": ("DIR", "search DIR for headers"),
-    "-O": ("LEVEL", "optimization level, as -O2"),
-    "-l": ("LIBRARY", "link with a library, as -lm"),
-    "-W": ("WARNING", "turn on a warning, as -Wall"),
-    "-f": ("NAME", "compiler option, as -fwrapv"),
-    "-m": ("NAME", "target option, as -march=rv32imc"),
-    "-std": ("STANDARD", "language standard, as -std=c99"),
+    "-O": ("LEVEL", "optimization level, such as -O2"),
+    "-l": ("LIBRARY", "link with a library, such as -lm"),
+    "-W": ("WARNING", "turn on a warning, such as -Wall"),
+    "-f": ("NAME", "compiler option, such as -fwrapv"),
+    "-m": ("NAME", "target option, such as -march=rv32imc"),
+    "-std": ("STANDARD", "language standard, such as -std=c99"),
 }
 # The sections of a help, in the order in which they are shown.
 THE_PROGRAM, MISTAKES, COMPILING, MACHINE, COSTS, OUTPUT = "the program", "mistakes", "compiling a .c program", "the machine", "costs", "output"

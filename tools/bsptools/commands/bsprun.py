@@ -59,7 +59,7 @@ def parser() -> Parser:
         " sizes that are given in elements; these searches run beside or after the program")  # fmt: skip
     add("--portable", action="store_true", help="run a .c program again under each choice that BSPlib leaves to an implementation")
     found.add_number("--tries", what="the number of orders", least=1, most=10_000, default=8, metavar="N",
-        help="orders of messages that --portable tries; default 8, or all if no rank gets more than 4")  # fmt: skip
+        help="orders of messages that --portable tries; default 8, or all if no rank gets more than 4 messages in a superstep")  # fmt: skip
     add("--accept", metavar="FILE", help="file with pairs of lines that --portable does not report; each of its lines is FILE:LINE FILE:LINE reason")
     add("--accept-all", metavar="FILE", help="write all pairs that --portable finds to FILE, for --accept")
     add("--order", metavar="CHOICES", help="repeat one run of --portable: CHOICES is what its finding prints after `again`")
@@ -77,7 +77,7 @@ def parser() -> Parser:
     add("--fold", action="store_true", help="like --lines, but count the work of library functions at the lines that call them")
     add("--lines-as", type=form, action="append", default=[], metavar="KIND=FILE", help="write the costs of lines to FILE. KIND is callgrind,"
         " folded (for flame graphs), trace (for Perfetto) or json (for bspplot --source); can be repeated")  # fmt: skip
-    add("--report", metavar="FILE", help="write the costs to FILE, as CSV or JSON if its name ends so; - is standard error")
+    add("--report", metavar="FILE", help="write the costs to FILE, as CSV or JSON if FILE ends in .csv or .json; - is standard error")
     add("--profile", metavar="FILE", help="write what each rank did in each superstep to FILE, as CSV for bspplot")
     add("--apart", choices=["printing"], help="leave the work of output functions out of --summary and --profile; --report keeps it")
     found.section(OUTPUT)

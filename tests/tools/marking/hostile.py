@@ -190,6 +190,76 @@ def unsearched(tally: Tally, folder: pathlib.Path) -> None:
         tally.expect(f"{name} where bspcheck {kind}", right, (done.returncode, row, done.stderr))
 
 
+# Two cases of which each compiles a hand-in with another constant, and what prints that by a function which is forbidden, or without it.
+TWO_CASES = """nodes = [1]
+solution = "right.c"
+forbid = ["strtol"]
+[[case]]
+name = "one"
+define = { N = 1 }
+[[case]]
+name = "two"
+define = { N = 2 }
+[[bound]]
+rule = "w == solution"
+"""
+PLAIN, FORBIDDEN = 'printf("%d\\n", N); bsp_sync();', 'printf("%d\\n", (int)strtol(N == 1 ? "1" : "2", NULL, 10)); bsp_sync();'
+SECTIONS = 'asm(".altmacro\\n.macro more n\\n.section .more\\\\n,\\"a\\"\\n.byte 0\\n.endm\\n.set i, 0\\n.rept %d\\nmore %%i\\n.set i, i + 1\\n.endr\\n.text");'
+
+
+def chosen(condition: str) -> str:
+    """A hand-in that calls what is forbidden only if it is compiled so."""
+    return PROGRAM % ("#include <stdlib.h>", f"\n#if {condition}\n{FORBIDDEN}\n#else\n{PLAIN}\n#endif\n")
+
+
+def hidden(tally: Tally, folder: pathlib.Path) -> None:
+    """A call is found in what runs, whatever constants, files and sections there are, and by each name that the linker has for it."""
+    bench = Bench(folder / "hidden")
+    cases = {
+        "right.c": (PROGRAM % ("", PLAIN), "right"), "calls.c": (PROGRAM % ("#include <stdlib.h>", FORBIDDEN), "not allowed"),
+        "other_case.c": (chosen("N == 2"), "not allowed"),
+        "compiled_again.c": (chosen('!(__has_include("program0.elf") && __has_include("program1.elf"))'), "not allowed"),
+        "compiled_before.c": (chosen('!__has_include("program0.o")'), "not allowed"),
+        "many_sections.c": (PROGRAM % (f"#include <stdlib.h>\n{SECTIONS % 300}", FORBIDDEN), "not allowed"),
+        "too_many_sections.c": (PROGRAM % (f"#include <stdlib.h>\n{SECTIONS % 66000}", FORBIDDEN), "not allowed"),
+        "wrapped.c": (PROGRAM % ("#include <stdlib.h>\nlong __wrap_strtol(const char *, char **, int);", FORBIDDEN.replace("strtol", "__wrap_strtol")), "not allowed"),
+    }  # fmt: skip
+    bench.write("sheet.toml", TWO_CASES)
+    for name, (text, _) in cases.items():
+        bench.write(name, text)
+    done = bench.run("sheet.toml", *cases, words=["-o", "m.csv"])
+    found = {it["hand-in"]: it["verdict"] for it in bench.rows("m.csv")} if done.returncode == NOT_ALL_RIGHT else {}
+    for name, (_, wanted) in cases.items():
+        tally.expect(f"calls of {name}", found.get(name) == wanted, (found.get(name), done.stderr))
+
+
+# So many letters a program may have, or print, in which each piece without an end would be looked for from each letter on.
+MANY = 300_000
+ENDLESS = {
+    "comment.c": "// \\\n" + "/*x" * MANY + "\n",
+    "raw.cpp": 'const char *text = R"(\n' + "/*x" * MANY + ')";\n',
+    "quotes.c": '#if 0\n"' + '\\"' * MANY + "\n#endif\n",
+}
+DIGITS = PROGRAM % ("", 'for (int i = 0; bsp_pid() == 0 && i < 60000; i++) putchar(i < 59999 ? \'7\' : \'x\');')
+SOON = 150
+
+
+def endless(tally: Tally, folder: pathlib.Path) -> None:
+    """What reads a text or an output of very many pieces without an end comes to an end."""
+    bench = Bench(folder / "endless")
+    bench.write("it.txt", "it\n")
+    bench.write("1.txt", "1\n")
+    bench.write("texts.toml", 'nodes = [1]\nexpected = "it.txt"\nforbid = ["strtol"]\n')
+    bench.write("numbers.toml", 'nodes = [1]\nexpected = "1.txt"\ncompare = "numbers"\n')
+    front = {".c": PRINTS, ".cpp": PRINTS.replace("#include <bsp.h>", 'extern "C" {\n#include <bsp.h>\n}')}
+    cases = [("texts.toml", name, front[pathlib.Path(name).suffix] + text, ALL_RIGHT) for name, text in ENDLESS.items()]
+    for sheet, name, text, wanted in [*cases, ("numbers.toml", "digits.c", DIGITS, NOT_ALL_RIGHT)]:
+        bench.write(name, text)
+        words = ["timeout", str(SOON), str(REPO / "bspcheck"), "--jobs", "1", sheet, name]
+        done = subprocess.run(words, cwd=bench.folder, stdin=subprocess.DEVNULL, capture_output=True, text=True, timeout=SECONDS, check=False)
+        tally.expect(f"{name} is marked soon", done.returncode == wanted, (done.returncode, done.stdout[-300:], done.stderr[-300:]))
+
+
 # Two programs of which one prints nothing, and one in C++.
 PRINTS, SILENT = PROGRAM % ("", 'if (bsp_pid() == 0) puts("it");'), PROGRAM % ("", "")
 CLASSES = "#include <vector>\n" + PROGRAM.replace("#include <bsp.h>", 'extern "C" {\n#include <bsp.h>\n}') % (
@@ -305,5 +375,7 @@ def parts(tally: Tally, folder: pathlib.Path) -> List[Part]:
         Part("a host that is short of all", lambda: short(tally, folder), wanted),
         Part("searches without an end", lambda: unsearched(tally, folder), wanted),
         Part("names of hand-ins", lambda: names(tally, folder), wanted),
+        Part("calls that are hidden", lambda: hidden(tally, folder), wanted),
+        Part("texts without an end", lambda: endless(tally, folder), wanted),
         Part("links of hand-ins", lambda: links(tally, folder)),
     ]

@@ -12,7 +12,7 @@ from .sheet import BYTES, NUMBERS, Sheet
 MOST_LETTERS, MOST_ROWS = 100, 40
 # Of a long line, letters that are shown in front of the first that differs.
 MOST_SAME = 30
-NUMBER = re.compile(r"[-+]?(?:\d+\.?\d*|\.\d+)(?:[eE][-+]?\d+)?$", re.ASCII)
+NUMBER = re.compile(r"[-+]?(?:\d+(?:\.\d*)?|\.\d+)(?:[eE][-+]?\d+)?$", re.ASCII)
 NOT_THERE = "nothing"
 
 

@@ -61,7 +61,10 @@ LACKS = (errno.ENOSPC, errno.EDQUOT, errno.ENOMEM, errno.EAGAIN, errno.EMFILE, e
 SLOW = "the compiler took too long"
 UNTRIED = "not portable: it fails if it is compiled for this trial, with the same constants, input and arguments"
 SAFE = re.compile(r"[A-Za-z_][\w.-]{0,80}\.(?:c|cc|cpp|cxx)", re.ASCII)
-COMMENTS = re.compile(r"//[^\n]*|/\*.*?\*/|\"(?:\\.|[^\"\\\n])*\"|'(?:\\.|[^'\\\n])*'", re.DOTALL)
+# A piece without an end matches, too: else each of very many would be looked through up to the end of the text.
+COMMENTS = re.compile(r"//(?:\\\n|[^\n])*|/\*.*?(?:\*/|\Z)|\"(?:\\.|[^\"\\\n])*\"?|'(?:\\.|[^'\\\n])*'?", re.DOTALL)
+# What the linker puts in front of the name of a function of the library that bspcc has wrapped.
+OTHER_NAME = re.compile("^__(?:wrap|real)_")
 
 
 @dataclass(frozen=True)
@@ -132,8 +135,6 @@ class Trial:
         images = {defines: self.built(defines, at) for at, defines in enumerate(dict.fromkeys(it.defines for it in self.plan.runs))}
         if not self.found.is_built:
             return self.found
-        if self.plan.calls:
-            self.find_calls()
         for number, run in enumerate(self.plan.runs):
             # Each takes as long as the clock lets it.
             is_late = sum(it.outcome == LATE for it in self.found.runs) >= MOST_LATE
@@ -150,11 +151,23 @@ class Trial:
     # The compiler.
 
     def built(self, defines: Tuple[Tuple[str, str], ...], number: int) -> pathlib.Path:
-        """The executable for these constants."""
+        """The executable for these constants. If the sheet names calls, they are looked for in the object that it is linked from: the text
+        may be another one with other constants, or as it is compiled once more."""
         target = self.folder / f"program{number}.elf"
         room = limits.STACK if self.plan.memory >= limits.MEMORY_OF_STACK else limits.COMPILED_STACK
-        words = self.compiler(defines, "-o", target.name, "-g", "--stack", str(room))
-        ran = bounded_run.run([*words, "-lm"], COMPILER_SECONDS, MOST_COMPILED, compiler_environment(self.folder))
+        linking = ("-o", target.name, "-g", "--stack", str(room))
+        if not self.plan.calls:
+            self.compile([*self.compiler(defines, self.name, *linking), "-lm"], target, number)
+            return target
+        part = target.with_suffix(".o")
+        if self.compile(self.compiler(defines, self.name, "-c", "-o", part.name, "-g"), part, number):
+            self.find_calls(part)
+            self.compile([*self.compiler((), part.name, *linking), "-lm"], target, number)
+        return target
+
+    def compile(self, words: List[str], target: pathlib.Path, number: int) -> bool:
+        """Has the compiler write a file, and answers whether it did."""
+        ran = bounded_run.run(words, COMPILER_SECONDS, MOST_COMPILED, compiler_environment(self.folder))
         is_built = ran.how == bounded_run.ENDED and ran.status == 0 and target.is_file()
         said = [it for it in ran.said.decode(errors="replace").replace(f"{self.folder}/", "").splitlines() if it.strip()]
         if not is_built:
@@ -163,29 +176,31 @@ class Trial:
             said.insert(0, f"the compiler was ended after {COMPILER_SECONDS} s")
         elif not is_built and not said:
             said.append(f"the compiler ended with status {ran.status}, perhaps because memory ran out")
-        if number == 0 or not is_built:
+        if not is_built:
             # Warnings and the files that were included come first, and may be many.
-            first = 0 if is_built else next((at for at, it in enumerate(said) if ERRORS.search(it)), 0)
+            first = next((at for at, it in enumerate(said) if ERRORS.search(it)), 0)
             self.found.said = said[first if first >= MOST_LINES else 0 :][:MOST_LINES]
+        elif number == 0:
+            self.found.said = [*self.found.said, *said][:MOST_LINES]
         self.found.is_built = is_built and (number == 0 or self.found.is_built)
-        return target
+        return is_built
 
     def is_lack(self, line: str) -> bool:
         """Whether the compiler says that the host has given it too little."""
         return bool(LACK.search(line) or self.is_scarce and SCARCE.search(line))
 
-    def compiler(self, defines: Tuple[Tuple[str, str], ...], *options: str) -> List[str]:
-        """The words that compile the hand-in."""
+    def compiler(self, defines: Tuple[Tuple[str, str], ...], source: str, *options: str) -> List[str]:
+        """The words that compile the hand-in, or link the object of it."""
         warnings = STRICT if self.plan.strict else ()
         constants = [f"-D{name}={value}" for name, value in defines]
-        return [emulator.program("bspcc"), *options, *warnings, "-fdiagnostics-color=never", *constants, self.name]
+        return [emulator.program("bspcc"), *options, *warnings, "-fdiagnostics-color=never", *constants, source]
 
-    def find_calls(self) -> None:
-        """Which of the calls that the sheet speaks of the hand-in's own code names, each with its line, or 0 if the text does not have it."""
-        target = self.folder / "calls.o"
-        defines = self.plan.runs[0].defines if self.plan.runs else ()
-        bounded_run.run(self.compiler(defines, "-c", "-o", target.name), COMPILER_SECONDS, MOST_COMPILED, compiler_environment(self.folder))
-        names = elf.names(content_of(target, limits.MOST_PROGRAM)) if target.is_file() else set()
+    def find_calls(self, part: pathlib.Path) -> None:
+        """Which of the calls that the sheet names an object of the hand-in's own code names, each with its line, or 0 if the text does not
+        have it."""
+        names = {OTHER_NAME.sub("", it) for it in elf.names(content_of(part, limits.MOST_PROGRAM))}
+        if not names:
+            raise Refused(f"{part.name} has no names of functions")
         text = COMMENTS.sub(lambda it: re.sub(r"[^\n]", " ", it[0]), self.text.decode(errors="replace"))
         for name in self.plan.calls:
             if name in names:

@@ -24,7 +24,7 @@ FLOAT_ABI = 0x6
 # What the attributes of a file say of its instructions.
 ARCHITECTURE = re.compile(rb"rv32([0-9a-z_]+)\0")
 # A section of symbols, the bytes of one of them, and of a name at the most.
-SYMBOLS, SYMBOL_BYTES, MOST_NAME = 2, 16, 1 << 12
+SYMBOLS, SYMBOL_BYTES, SECTION_BYTES, MOST_NAME = 2, 16, 40, 1 << 12
 FUNCTION, OBJECT = "STT_FUNC", "STT_OBJECT"
 # What makes a scope of a function's debug information, with the blocks in it.
 CALLED, PUT_IN, BLOCK = "DW_TAG_subprogram", "DW_TAG_inlined_subroutine", "DW_TAG_lexical_block"
@@ -102,11 +102,13 @@ def symbols(content: bytes) -> dict[str, int]:
     with contextlib.suppress(struct.error, IndexError):
         (start,) = struct.unpack_from("<I", content, 32)
         size, count = struct.unpack_from("<HH", content, 46)
-        sections = [struct.unpack_from("<10I", content, start + i * size) for i in range(min(count, MOST_SECTIONS))]
+        # If there are too many for the header, the first one has their number.
+        count = count or struct.unpack_from("<10I", content, start)[5]
+        sections = (struct.unpack_from("<10I", content, start + i * size) for i in range(min(count, len(content) // SECTION_BYTES)))
         table = next((it for it in sections if it[1] == SYMBOLS), None)
         if table is not None:
             _, _, _, _, begin, length, link, *_ = table
-            texts, room = sections[link][4:6]
+            texts, room = struct.unpack_from("<10I", content, start + link * size)[4:6]
             places = [struct.unpack_from("<2I", content, begin + at) for at in range(0, length, SYMBOL_BYTES)]
             text = content[texts : texts + room]
             known = [(at, it) for at, it in places if b"\0" in text[at : at + MOST_NAME]]

@@ -8,7 +8,7 @@ import os
 import pathlib
 from typing import TYPE_CHECKING, Any, Dict, Iterable, List, Mapping, Optional, Sequence, Tuple, Union
 
-from bsptools import children
+from bsptools import children, files
 from bsptools.commands import bspplot, bspsweep
 from bsptools.plot import sweep_table
 from bsptools.prices import spelled
@@ -166,11 +166,11 @@ class Sweep:
         record = table_record.beside(os.fspath(path))
         try:
             table_record.expect_own(record)
+            files.write(path, self.table)
+            if record is not None:
+                files.write(record, table_record.spelled(self.record))
         except Refused as refused:
             raise BspError("\n".join(refused.args)) from refused
-        pathlib.Path(path).write_text(self.table, encoding="utf-8", errors="surrogateescape")
-        if record is not None:
-            pathlib.Path(record).write_text(table_record.spelled(self.record), encoding="utf-8")
 
     def curves(self, path: Optional[Path] = None, **options: str) -> Any:
         """Lines over any column, as `bspplot --curves` draws them: `x="N"`, `y="speedup"`, `by="program"`, `size="3.3in"`, ...

@@ -123,7 +123,8 @@ def elsewhere(check: Check) -> None:
 def refusals(check: Check) -> None:
     """What is no record is refused, and so is what would be written over."""
     (check.folder / "taken.csv.json").write_text("{}\n")
-    for name, text in (("list.json", "[1]"), ("deep.json", "[" * 100_000), ("words.json", '{"made by": "x", "command": [1]}'), ("cut.json", "{")):
+    texts = {"list": "[1]", "deep": "[" * 100_000, "words": '{"made by": "x", "command": [1]}', "cut": "{", "half": '{"made by": "x", "command": ["\\ud800.c"]}'}
+    for name, text in ((f"{it}.json", text) for it, text in texts.items()):
         (check.folder / name).write_text(text)
         done = check.tool("bspsweep", "--again", name)
         right = done.returncode == 1 and f"{name} is not the record of a table" in done.stderr

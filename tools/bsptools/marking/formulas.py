@@ -137,7 +137,14 @@ def _check(node: Any) -> None:
 
 
 def _value(node: Any, values: Mapping[str, float]) -> float:
-    """What an expression comes to."""
+    """What an expression comes to. Raises ValueError if it is no number, or has no end."""
+    found = _computed(node, values)
+    if isinstance(found, float) and not math.isfinite(found):
+        raise ValueError("a number is too large")
+    return found
+
+
+def _computed(node: Any, values: Mapping[str, float]) -> float:
     try:
         if isinstance(node, ast.BinOp):
             return OPERATORS[type(node.op)](_value(node.left, values), _value(node.right, values))

@@ -18,6 +18,7 @@ from .sheet import COMPARISONS, QUANTITIES, SETTINGS, Bound, Case, Generator, Nu
 from .toml_places import Path, Places
 
 MOST_BYTES, MOST_RUNS, MOST_NUMBERS = 1 << 20, 500, 1_000_000
+MOST_CONSTANT = (1 << 64) - 1
 MOST_POINTS, MOST_SECONDS, MOST_OUTPUT, MOST_PRICE = 1000, 3600, 1 << 26, 1 << 32
 UNITS = {"K": 1 << 10, "M": 1 << 20}
 NAME = re.compile(r"[A-Za-z_]\w*", re.ASCII)
@@ -55,6 +56,9 @@ def read(path: str) -> Sheet:
         raise Refused(f"{path}:{line}:{column}: {found[1] if found else error}") from error
     except RecursionError as error:
         raise Refused(f"{path}: its values are nested too deeply") from error
+    except ValueError as error:
+        # Python reads no number of more than some thousand digits.
+        raise Refused(f"{path}: a number has too many digits") from error
     return Reader(path, content, Places(text.replace("\r\n", "\n"))).sheet()
 
 
@@ -334,6 +338,9 @@ class Reader:
             self.note(path, f"{name!r} is not the name of a constant")
         if isinstance(value, bool) or not isinstance(value, (int, float, str)) or (isinstance(value, str) and "\0" in value):
             self.note(path, "a constant is a number or a text")
+        if isinstance(value, int) and abs(value) > MOST_CONSTANT:
+            self.note(path, f"a constant is {MOST_CONSTANT} at most")
+            return ""
         return str(value)
 
     def input(self, path: Path, value: Any) -> object:

@@ -56,9 +56,17 @@ def read(path: str) -> Record:
     """A record, as `made` makes it."""
     found = _parsed(path)
     words = (found or {}).get(COMMAND)
-    if found is None or MADE_BY not in found or not isinstance(words, list) or not all(isinstance(it, str) and "\0" not in it for it in words):
+    if found is None or MADE_BY not in found or not isinstance(words, list) or not all(map(_is_word, words)):
         raise Refused(f"{path} is not the record of a table, which bspsweep -o FILE writes into FILE.json")
     return found
+
+
+def _is_word(it: object) -> bool:
+    """Whether this can be a word of a command line. JSON can spell halves of letters, which no name of a file has."""
+    try:
+        return isinstance(it, str) and b"\0" not in os.fsencode(it)
+    except UnicodeEncodeError:
+        return False
 
 
 def spelled(record: Record) -> str:

@@ -82,8 +82,8 @@ class NoteTeller:
         at = self.at(note) if note.what in (UNWRITTEN, LOST, EMPTY, READ, STATUS) else ""
         status = note.one if note.one < 2**31 else note.one - 2**32
         texts = {
-            UNWRITTEN: f"{note.text} was to be written{at}, and --no-files keeps the program from that",
-            LOST: f"{note.text} was to be read{at}, and the node had no memory to keep what was written: give --memory",
+            UNWRITTEN: f"{note.text} was not written{at}, because --no-files forbids it: run again without --no-files",
+            LOST: f"{note.text} could not be read{at}, because the node had no memory to keep what was written: give --memory",
             EMPTY: f"a number is read{at}, and {what}",
             READ: f"{note.text.partition(' ')[0]} is read{at}, and does not fit into a long, which has 32 bits here: use long long, %lld and strtoll",
             CLOCK: f"bsp_time returns the cost of the run so far by the model, not the time of this computer: {self.seconds}",
@@ -110,12 +110,13 @@ class NoteTeller:
 
     def absent(self, note: Note) -> str:
         """A file that is not there."""
-        name, read = note.text, f"{note.text} was to be read{self.at(note)}"
+        name, at = note.text, self.at(note)
         if name in self.written and self.written[name] != note.rank:
-            return f"{read}: rank {self.written[name]} has written it, and ranks share no files, so send what it has"
+            return f"{name} could not be read{at}: rank {self.written[name]} has written it, and ranks share no files, so send what it has"
         if os.path.isfile(name):
-            return f"{read}: it is in this folder, give --file {name}"
-        return f"{read}, and no file of this name is given or in this folder: give --file PATH/{os.path.basename(name)}"
+            return f"{name} could not be read{at}: it was not given to the program, so give --file {name}"
+        lacking = "no file of this name was given, and none is in this folder"
+        return f"{name} was not found{at}: {lacking}; give --file PATH/{os.path.basename(name)}"
 
     def pending(self, note: Note) -> str:
         """Requests that come to nothing."""

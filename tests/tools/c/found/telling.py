@@ -23,9 +23,9 @@ class Case(NamedTuple):
 
 TOLD: Dict[int, Case] = {
     1: Case([], "malloc of 100000000 bytes was refused at main, "),
-    2: Case(["--no-files"], "rank 0, superstep 0: life.pgm was to be written at files, .. , and --no-files keeps the program from that; the same on 1 more"),
-    3: Case([], "rank 0, superstep 0: params.cfg was to be read at files, .. , and no file of this name is given or in this folder"),
-    4: Case(["--no-files"], "rank 0, superstep 0: here.cfg was to be read at files, .. : it is in this folder, give --file here.cfg"),
+    2: Case(["--no-files"], "rank 0, superstep 0: life.pgm was not written at files, .. , because --no-files forbids it: run again .. ; the same on 1 more"),
+    3: Case([], "rank 0, superstep 0: params.cfg was not found at files, .. : no file of this name was given, and none is in this folder; give --file"),
+    4: Case(["--no-files"], "rank 0, superstep 0: here.cfg could not be read at files, .. : it was not given to the program, so give --file here.cfg"),
     5: Case([], "superstep 1: the last requests have no effect, because no bsp_sync follows; the last one is at messages, "),
     7: Case([], "10 bytes of malloc at 0x"),
     8: Case([], "memory that was freed before"),
@@ -210,8 +210,8 @@ class Telling:
         kept = (self.folder / "elsewhere").read_text() == "kept\n"
         self.tally.expect("nothing elsewhere", before == after and kept, (before, after))
         done = self.run("-n", "2", "--no-files", image)
-        said = "out/life.pgm was to be written at "
-        self.expect("no files", done, 2, "out/life.pgm: Read-only file system", said, ", and --no-files keeps the program from that")
+        said = "out/life.pgm was not written at "
+        self.expect("no files", done, 2, "out/life.pgm: Read-only file system", said, ", because --no-files forbids it: run again without --no-files")
         (self.folder / "place").mkdir()
         (self.folder / "place/log.txt").mkdir()
         done = self.run("--out", "place", image)
@@ -281,7 +281,7 @@ class Telling:
         before = {it: it.read_bytes() for it in self.folder.rglob("*") if it.is_file()}
         done = self.run("-n", "3", "--no-files", "keep.elf")
         after = {it: it.read_bytes() for it in self.folder.rglob("*") if it.is_file()}
-        self.expect("nothing without files", done, 3, "in/part0.txt was to be read: it is in this folder, give --file")
+        self.expect("nothing without files", done, 3, "in/part0.txt could not be read: it was not given to the program, so give --file")
         self.tally.expect("nothing changes without files", before == after and "again" not in done.stderr, done)
         self.expect("both options", self.run("--no-files", "--out", "x", "keep.elf"), 1, "leave out one of the two")
         self.spelled()
@@ -303,7 +303,7 @@ class Telling:
         for _ in range(2):
             done = self.run("-n", "2", "share.c")
             self.expect("a file of another rank", done, 4, "rank 0 has written it, and ranks share no files", "wrote shared.txt")
-        self.expect("a device", self.run("show.elf", given="/proc/version\n"), 4, "/proc/version was to be read")
+        self.expect("a device", self.run("show.elf", given="/proc/version\n"), 4, "/proc/version could not be read")
 
     def given(self) -> None:
         """Words that are files, and all files of a folder."""

@@ -47,11 +47,11 @@ struct bsp_choices bsp_choices __attribute__((section(".data"))) = {.magic = "\0
 /* What a target of bsp_hpget has between the call and bsp_sync. */
 #define SPOILT 0xa5
 
-/* Where this rank is: its number, its superstep, in that its points of each kind, whether it has cuts there, and whether its puts, gets and
-   sends are made as they are and not told. */
+/* Where this rank is: its number, its superstep, in that its points of each kind, whether it has cuts there, whether its puts, gets and
+   sends are made as they are and not told, and whether bsp_move takes the machine's messages as they come. */
 static struct {
     unsigned rank, superstep, calls, pieces;
-    int has_cuts, is_plain;
+    int has_cuts, is_plain, is_queue_plain;
 } here;
 unsigned bsp_requested = 0;
 
@@ -73,12 +73,18 @@ static char *take_room(size_t size, int is_high)
     return room.low - size;
 }
 
-static int is_chosen(unsigned index)
+/* How many of the rank's points of a kind are chosen in this superstep, from 0 on. */
+static unsigned chosen_here(void)
 {
     const struct point *until = &bsp_choices.until;
     if (here.superstep != until->superstep)
-        return here.superstep < until->superstep;
-    return here.rank != until->rank ? here.rank < until->rank : index < until->index;
+        return here.superstep < until->superstep ? (unsigned)-1 : 0;
+    return here.rank == until->rank ? until->index : here.rank < until->rank ? (unsigned)-1 : 0;
+}
+
+static int is_chosen(unsigned index)
+{
+    return index < chosen_here();
 }
 
 /* Calls as tools/bsptools/portable/call_log.py reads them: the machine's number, or one of those below, and where the call goes back to. What
@@ -126,11 +132,17 @@ static void write_log(void)
     log.count = 0;
 }
 
-static void log_call(struct logged call)
+/* In line, the call is written to its place at once. */
+static inline __attribute__((always_inline)) void log_in_line(struct logged call)
 {
     log.all[log.count++] = call;
     if (log.count == MOST_LOGGED)
         write_log();
+}
+
+static __attribute__((noinline)) void log_call(struct logged call)
+{
+    log_in_line(call);
 }
 #define LOG(number, pid, src, dst, offset, nbytes, tag)                                                                              \
     do {                                                                                                                             \
@@ -178,11 +190,15 @@ static int is_cut(const struct cut *it, unsigned request)
     return is_here(it) && it->request == request;
 }
 
+/* What is chosen of messages. In a program of bspcc --portable=accesses the sizes of messages are wanted, too. */
+#define IS_OTHERWISE (bsp_choices.order != AS_SENT || bsp_choices.queue != 0 || bsp_access != NULL)
+
 /* Finds out what is chosen in the superstep that begins. Cuts of variables are of none. */
 static void begin_superstep(void)
 {
     here.has_cuts = bsp_choices.cuts > 0 && !bsp_choices.is_alone && !bsp_choices.is_summed && is_here(cuts_from(0));
     here.is_plain = !here.has_cuts && !bsp_choices.is_logged && bsp_choices.unbuffered == AS_BUFFERED;
+    here.is_queue_plain = here.is_plain && !IS_OTHERWISE;
 }
 
 __attribute__((noreturn)) extern void __real_bsp_start(void);
@@ -356,20 +372,30 @@ void __wrap_bsp_get(int pid, const void *src, int offset, void *dst, int nbytes)
     __real_bsp_get(pid, src, offset, dst, nbytes);
 }
 
+/* Four bytes, which mostly lie at an address that is a multiple of 4. */
+static inline unsigned word_at(const void *at)
+{
+    unsigned word;
+    if ((size_t)at % sizeof(any_word) == 0)
+        return *(const any_word *)at;
+    memcpy(&word, at, sizeof word);
+    return word;
+}
+
 /* Tells of a message: also its last 8 bytes, or those that there are. */
 static __attribute__((noinline)) void log_send(const void *place, int pid, const void *tag, const void *payload, int nbytes)
 {
-    struct {
-        unsigned low;
-        int high;
-    } last = {0, 0};
+    const char *end = (const char *)payload + nbytes;
+    unsigned low = 0, high = 0;
     if (!bsp_choices.is_logged || bsp_part != BSP_WITHIN)
         return;
-    if (nbytes >= (int)sizeof last)
-        memcpy(&last, (const char *)payload + nbytes - sizeof last, sizeof last);
-    else if (nbytes == (int)sizeof last.low)
-        memcpy(&last.low, payload, sizeof last.low);
-    log_call((struct logged){CALL_SEND, (unsigned)place, pid, (unsigned)payload, last.low, last.high, nbytes, (unsigned)tag});
+    if (nbytes >= 8) {
+        low = word_at(end - 8);
+        high = word_at(end - 4);
+    } else if (nbytes == 4) {
+        low = word_at(payload);
+    }
+    log_in_line((struct logged){CALL_SEND, (unsigned)place, pid, (unsigned)payload, low, (int)high, nbytes, (unsigned)tag});
 }
 
 void __wrap_bsp_send(int pid, const void *tag, const void *payload, int payload_nbytes)
@@ -570,8 +596,9 @@ void __wrap_bsp_set_tagsize(int *tag_nbytes)
 static void swap_messages(void)
 {
     unsigned random = bsp_choices.seed + here.superstep * 2654435761u + here.rank * 40503u, number = bsp_choices.seed;
+    unsigned chosen = chosen_here();
     int i, other;
-    for (i = 0; i < queue.count - 1 && is_chosen((unsigned)i); i++) {
+    for (i = 0; i < queue.count - 1 && (unsigned)i < chosen; i++) {
         other = i;
         if (bsp_choices.order == NUMBERED) {
             other = i + (int)(number % (unsigned)(queue.count - i));
@@ -613,6 +640,7 @@ static __attribute__((noinline)) void keep_queue(void)
     queue.count = messages;
     queue.next = 0;
     queue.is_kept = 1;
+    here.is_queue_plain = 0;
     if (bsp_choices.order != AS_SENT)
         swap_messages();
 }
@@ -624,9 +652,6 @@ static inline int keeps_queue(int is_wanted)
         keep_queue();
     return queue.is_kept;
 }
-/* What is chosen of messages. In a program of bspcc --portable=accesses the sizes of messages are wanted, too. */
-#define IS_OTHERWISE (bsp_choices.order != AS_SENT || bsp_choices.queue != 0 || bsp_access != NULL)
-
 void __wrap_bsp_qsize(int *nmessages, int *accum_nbytes)
 {
     if (!keeps_queue(IS_OTHERWISE)) {
@@ -678,27 +703,40 @@ static __attribute__((noinline)) void move_kept(void *payload, int reception_nby
     const struct message *it = next_message();
     int count = it->size < reception_nbytes ? it->size : reception_nbytes;
     WRITES(payload, count, place);
-    /* As of most messages, which have a number. */
-    if (count == (int)sizeof(any_word) && (size_t)payload % sizeof(any_word) == 0)
-        *(any_word *)payload = *(const any_word *)it->payload;
-    else
-        memcpy(payload, it->payload, (size_t)count);
+    memcpy(payload, it->payload, (size_t)count);
+}
+
+/* Takes a message that is one word, as most are that have a number, and answers whether the next one is. */
+static inline int move_word(void *payload, int reception_nbytes)
+{
+    const struct message *it = &queue.all[queue.next];
+    int is_word = queue.is_kept && queue.next < queue.count && bsp_access == NULL && it->size == (int)sizeof(any_word);
+    if (!is_word || reception_nbytes < (int)sizeof(any_word) || (size_t)payload % sizeof(any_word) != 0)
+        return 0;
+    *(any_word *)payload = *(const any_word *)next_message()->payload;
+    return 1;
+}
+
+static __attribute__((noinline)) void move_any(void *payload, int reception_nbytes, const void *place)
+{
+    if (reception_nbytes < 0 || !keeps_queue(IS_OTHERWISE)) {
+        log_move(place);
+        __real_bsp_move(payload, reception_nbytes);
+    } else if (queue.next < queue.count) {
+        move_kept(payload, reception_nbytes, place);
+    } else if (bsp_choices.is_logged && bsp_part == BSP_WITHIN) {
+        log_call((struct logged){.number = LOG_NO_MESSAGE, .place = (unsigned)place});
+    }
 }
 
 void __wrap_bsp_move(void *payload, int reception_nbytes)
 {
-    if (reception_nbytes < 0 || !keeps_queue(IS_OTHERWISE)) {
-        if (here.is_plain) {
-            __real_bsp_move(payload, reception_nbytes);
-            return;
-        }
-        log_move(__builtin_return_address(0));
+    if (here.is_queue_plain) {
         __real_bsp_move(payload, reception_nbytes);
-    } else if (queue.next == queue.count) {
-        LOG(LOG_NO_MESSAGE, 0, 0, 0, 0, 0, 0);
-    } else {
-        move_kept(payload, reception_nbytes, __builtin_return_address(0));
+        return;
     }
+    if (!move_word(payload, reception_nbytes))
+        move_any(payload, reception_nbytes, __builtin_return_address(0));
 }
 
 /* In each run the memory of malloc is without these messages, so that its pieces have the same numbers. */

@@ -2,8 +2,10 @@
 
 from __future__ import annotations
 
+import html
 import os
 import pathlib
+import re
 import shlex
 import subprocess
 import sys
@@ -343,6 +345,29 @@ def compilers(tally: Tally, folder: pathlib.Path) -> None:
         tally.expect(name, found == [("right", False), ("does not compile", True)], (found, done))
 
 
+# What replaces the solution if it is run where it may write files.
+REPLACES = PROGRAM % ("", 'FILE *f = fopen("right.c", "w"); if (f) { fputs("int x;", f); fclose(f); } puts("taken");')
+
+
+def repeated(tally: Tally, folder: pathlib.Path) -> None:
+    """The commands that make a run of a hand-in again change no file of those who give them."""
+    bench = Bench(folder / "repeated")
+    bench.write("sheet.toml", 'nodes = [1]\nsolution = "right.c"\n')
+    right = PROGRAM % ("", 'puts("it");')
+    bench.write("right.c", right)
+    bench.write("replaces.c", REPLACES)
+    done = bench.run("sheet.toml", "replaces.c", words=["--html", "m.html"])
+    page = (bench.folder / "m.html").read_text()
+    lines = [*re.findall(r"(?m)^  to .*?: (.*bsprun .*)$", done.stdout), *map(html.unescape, re.findall(r"<pre>([^<]*bsprun [^<]*)</pre>", page))]
+    commands = list(dict.fromkeys(lines))
+    tally.expect("commands that make a run again", len(commands) == 3, (commands, done))
+    for command in commands:
+        bench.write("right.c", right)
+        subprocess.run(command, shell=True, cwd=bench.folder, stdin=subprocess.DEVNULL, capture_output=True, timeout=SECONDS, check=False)
+        found = (bench.folder / "right.c").read_text()
+        tally.expect(f"the solution after {command}", found == right, found)
+
+
 def has_file(folder: pathlib.Path, name: str) -> bool:
     """Whether a file of this name is in a folder or below it. Folders of other runs may go meanwhile."""
     try:
@@ -377,5 +402,6 @@ def parts(tally: Tally, folder: pathlib.Path) -> List[Part]:
         Part("names of hand-ins", lambda: names(tally, folder), wanted),
         Part("calls that are hidden", lambda: hidden(tally, folder), wanted),
         Part("texts without an end", lambda: endless(tally, folder), wanted),
+        Part("commands that make a run again", lambda: repeated(tally, folder), wanted),
         Part("links of hand-ins", lambda: links(tally, folder)),
     ]

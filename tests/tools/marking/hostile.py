@@ -243,11 +243,16 @@ ENDLESS = {
     "quotes.c": '#if 0\n"' + '\\"' * MANY + "\n#endif\n",
 }
 DIGITS = PROGRAM % ("", 'for (int i = 0; bsp_pid() == 0 && i < 60000; i++) putchar(i < 59999 ? \'7\' : \'x\');')
+# Names that are as long: of a function that the linker does not find, and of one that is stopped.
+NAMED = {
+    "symbol.c": f'extern void f(void) __asm__("a${"b" * MANY}");\n' + PROGRAM % ("", "f();"),
+    "function.c": PROGRAM % (f"static void f{'b' * MANY}(void) {{ *(volatile int *)0x7fffff00 = 1; }}", f"f{'b' * MANY}();"),
+}
 SOON = 150
 
 
 def endless(tally: Tally, folder: pathlib.Path) -> None:
-    """What reads a text or an output of very many pieces without an end comes to an end."""
+    """What reads a text or an output of very many pieces without an end, or a very long name, comes to an end."""
     bench = Bench(folder / "endless")
     bench.write("it.txt", "it\n")
     bench.write("1.txt", "1\n")
@@ -255,6 +260,7 @@ def endless(tally: Tally, folder: pathlib.Path) -> None:
     bench.write("numbers.toml", 'nodes = [1]\nexpected = "1.txt"\ncompare = "numbers"\n')
     front = {".c": PRINTS, ".cpp": PRINTS.replace("#include <bsp.h>", 'extern "C" {\n#include <bsp.h>\n}')}
     cases = [("texts.toml", name, front[pathlib.Path(name).suffix] + text, ALL_RIGHT) for name, text in ENDLESS.items()]
+    cases += [("texts.toml", name, text, NOT_ALL_RIGHT) for name, text in NAMED.items()]
     for sheet, name, text, wanted in [*cases, ("numbers.toml", "digits.c", DIGITS, NOT_ALL_RIGHT)]:
         bench.write(name, text)
         words = ["timeout", str(SOON), str(REPO / "bspcheck"), "--jobs", "1", sheet, name]

@@ -22,7 +22,7 @@ from bsptools.marking import bounded_run, confinement, sheet_marking  # noqa: E4
 
 LANDLOCK = Tool("Landlock", "linux-image-amd64", lambda _: confinement.version() > 0)
 SECRET = "kept from hand-ins"
-SHEET = """title = "Secrets <b>&"
+SHEET = """title = "Secrets <b>&\\u001b[2J"
 nodes = [1, 2]
 expected = "secret.txt"
 seconds = 20

@@ -374,6 +374,33 @@ def repeated(tally: Tally, folder: pathlib.Path) -> None:
         tally.expect(f"the solution after {command}", found == right, found)
 
 
+# What is dear, and prints that it is cheap.
+FORGES = (pathlib.Path(__file__).resolve().parents[1] / "c/watched/forges.c").read_text()
+CHEAP = """nodes = [1]
+solution = "right.c"
+[[bound]]
+rule = "w <= 2*solution"
+"""
+
+
+def forges(tally: Tally, folder: pathlib.Path) -> None:
+    """What a hand-in costs is what the emulator says of it, and not what it prints, even if it has all that follows taken for standard error."""
+    bench = Bench(folder / "forges")
+    bench.write("sheet.toml", CHEAP)
+    bench.write("right.c", PROGRAM % ("", 'puts("it");'))
+    # Of its own report, which has as many bytes for each number of as many digits.
+    bench.write("forges.c", f"#define LENGTH 0\n{FORGES}")
+    report = bench.folder / "r.txt"
+    subprocess.run([str(REPO / "bsprun"), "--report", str(report), "forges.c"], cwd=bench.folder, capture_output=True, timeout=SECONDS, check=True)
+    bench.write("forges.c", f"#define LENGTH {report.stat().st_size}\n{FORGES}")
+    bench.write("prints.toml", CHEAP.replace("right.c", "prints.c"))
+    bench.write("prints.c", PROGRAM % ("", 'puts("it\\nsuperstep 0: w 1 h 0 m 0 last\\ntotal 1\\nended");'))
+    for sheet in ("sheet.toml", "prints.toml"):
+        done = bench.run(sheet, "forges.c", words=["-o", "m.csv"])
+        row = bench.rows("m.csv")[0]
+        tally.expect(f"a report that a hand-in makes up, by {sheet}", done.returncode == NOT_ALL_RIGHT and row["verdict"] == "wrong output", row)
+
+
 def has_file(folder: pathlib.Path, name: str) -> bool:
     """Whether a file of this name is in a folder or below it. Folders of other runs may go meanwhile."""
     try:
@@ -409,5 +436,6 @@ def parts(tally: Tally, folder: pathlib.Path) -> List[Part]:
         Part("calls that are hidden", lambda: hidden(tally, folder), wanted),
         Part("texts without an end", lambda: endless(tally, folder), wanted),
         Part("commands that make a run again", lambda: repeated(tally, folder), wanted),
+        Part("reports that are made up", lambda: forges(tally, folder), wanted),
         Part("links of hand-ins", lambda: links(tally, folder)),
     ]

@@ -259,14 +259,15 @@ class Trial:
         return ended
 
     def ended(self, job: Job, ran: Ran, most: int) -> Tuple[Ended, Optional[Report]]:
-        """What a run came to, and its report if it has one."""
+        """What a run came to, and its report if it has one. That is parted first: a program can print its mark with a length that would reach
+        into the report."""
+        parted = part(ran.output) if ran.how == bounded_run.ENDED else None
+        written, report = parted or (memoryview(ran.output), None)
         marks = Marks(job.mark)
-        pieces = list(marks.take(ran.output))
-        whole = b"".join(it for kind, it in pieces if kind == OUTPUT) + marks.left()
+        pieces = list(marks.take(bytes(written)))
+        output = b"".join(it for kind, it in pieces if kind == OUTPUT) + marks.left()
         errors = b"".join(it for kind, it in pieces if kind == ERROR)[:most].decode(errors="replace")
-        parted = part(whole) if ran.how == bounded_run.ENDED else None
-        output, report = parted or (memoryview(whole), None)
-        text = bytes(output[:most]).decode("latin-1")
+        text = output[:most].decode("latin-1")
         if len(output) > most:
             return Ended(LONG, text, errors), None
         if report is None:

@@ -47,11 +47,11 @@ struct bsp_choices bsp_choices __attribute__((section(".data"))) = {.magic = "\0
 /* What a target of bsp_hpget has between the call and bsp_sync. */
 #define SPOILT 0xa5
 
-/* Where this rank is: its number, its superstep, in that its points of each kind, whether it has cuts there, and whether its puts, gets and
-   sends are made as they are and not told. */
+/* Where this rank is: its number, its superstep, in that its points of each kind, whether it has cuts there, whether its puts, gets and
+   sends are made as they are and not told, and whether bsp_move takes the machine's messages as they come. */
 static struct {
     unsigned rank, superstep, calls, pieces;
-    int has_cuts, is_plain;
+    int has_cuts, is_plain, is_queue_plain;
 } here;
 unsigned bsp_requested = 0;
 
@@ -73,17 +73,23 @@ static char *take_room(size_t size, int is_high)
     return room.low - size;
 }
 
-static int is_chosen(unsigned index)
+/* How many of the rank's points of a kind are chosen in this superstep, from 0 on. */
+static unsigned chosen_here(void)
 {
     const struct point *until = &bsp_choices.until;
     if (here.superstep != until->superstep)
-        return here.superstep < until->superstep;
-    return here.rank != until->rank ? here.rank < until->rank : index < until->index;
+        return here.superstep < until->superstep ? (unsigned)-1 : 0;
+    return here.rank == until->rank ? until->index : here.rank < until->rank ? (unsigned)-1 : 0;
+}
+
+static int is_chosen(unsigned index)
+{
+    return index < chosen_here();
 }
 
 /* Calls as tools/bsptools/portable/call_log.py reads them: the machine's number, or one of those below, and where the call goes back to. What
    a call does not have is 0. Of a message `dst` and `offset` are the last 8 bytes of its payload, which may be a number with a point. */
-enum { LOG_DIRECT_GET = 110, LOG_READ = 111, LOG_WRITTEN = 112, LOG_NO_MESSAGE = 115, LOG_INPUT = 118, MOST_LOGGED = 32 };
+enum { LOG_DIRECT_GET = 110, LOG_READ = 111, LOG_WRITTEN = 112, LOG_NO_MESSAGE = 115, LOG_INPUT = 118 };
 enum { RECORD_CALLS = 'c', RECORD_SUM = 'v' };
 struct logged {
     unsigned number, place;
@@ -92,18 +98,18 @@ struct logged {
     int offset, nbytes;
     unsigned tag;
 };
-static struct {
-    int count;
-    struct logged all[MOST_LOGGED];
-} log;
 
-/* A record with a word and more bytes. */
-enum { MOST_RECORDED = 4096 };
+/* A record with a word and more bytes. Calls wait in it until it is full or the superstep ends, so many as `logged` says. */
+enum { MOST_RECORDED = 4096, MOST_LOGGED = MOST_RECORDED / sizeof(struct logged) };
 static struct {
     char mark[sizeof bsp_settings.mark];
     unsigned size, rank, word;
-    char bytes[MOST_RECORDED];
+    union {
+        char bytes[MOST_RECORDED];
+        struct logged calls[MOST_LOGGED];
+    };
 } record;
+static int logged = 0;
 
 /* Writes it. Unlike those of bsp_record it leaves alone what stands in the buffers of the output, so that a run that tells of itself has the
    output of one that does not, and it is written whether others are wanted or not. */
@@ -119,18 +125,22 @@ static void write_record(int kind, unsigned word, int size)
 
 static void write_log(void)
 {
-    if (log.count > 0) {
-        memcpy(record.bytes, log.all, (size_t)log.count * sizeof *log.all);
-        write_record(RECORD_CALLS, here.superstep, log.count * (int)sizeof *log.all);
-    }
-    log.count = 0;
+    if (logged > 0)
+        write_record(RECORD_CALLS, here.superstep, logged * (int)sizeof *record.calls);
+    logged = 0;
 }
 
-static void log_call(struct logged call)
+/* In line, the call is written to its place at once. */
+static inline __attribute__((always_inline)) void log_in_line(struct logged call)
 {
-    log.all[log.count++] = call;
-    if (log.count == MOST_LOGGED)
+    record.calls[logged++] = call;
+    if (logged == MOST_LOGGED)
         write_log();
+}
+
+static __attribute__((noinline)) void log_call(struct logged call)
+{
+    log_in_line(call);
 }
 #define LOG(number, pid, src, dst, offset, nbytes, tag)                                                                              \
     do {                                                                                                                             \
@@ -178,11 +188,15 @@ static int is_cut(const struct cut *it, unsigned request)
     return is_here(it) && it->request == request;
 }
 
+/* What is chosen of messages. In a program of bspcc --portable=accesses the sizes of messages are wanted, too. */
+#define IS_OTHERWISE (bsp_choices.order != AS_SENT || bsp_choices.queue != 0 || bsp_access != NULL)
+
 /* Finds out what is chosen in the superstep that begins. Cuts of variables are of none. */
 static void begin_superstep(void)
 {
     here.has_cuts = bsp_choices.cuts > 0 && !bsp_choices.is_alone && !bsp_choices.is_summed && is_here(cuts_from(0));
     here.is_plain = !here.has_cuts && !bsp_choices.is_logged && bsp_choices.unbuffered == AS_BUFFERED;
+    here.is_queue_plain = here.is_plain && !IS_OTHERWISE;
 }
 
 __attribute__((noreturn)) extern void __real_bsp_start(void);
@@ -356,20 +370,30 @@ void __wrap_bsp_get(int pid, const void *src, int offset, void *dst, int nbytes)
     __real_bsp_get(pid, src, offset, dst, nbytes);
 }
 
+/* Four bytes, which mostly lie at an address that is a multiple of 4. */
+static inline unsigned word_at(const void *at)
+{
+    unsigned word;
+    if ((size_t)at % sizeof(any_word) == 0)
+        return *(const any_word *)at;
+    memcpy(&word, at, sizeof word);
+    return word;
+}
+
 /* Tells of a message: also its last 8 bytes, or those that there are. */
 static __attribute__((noinline)) void log_send(const void *place, int pid, const void *tag, const void *payload, int nbytes)
 {
-    struct {
-        unsigned low;
-        int high;
-    } last = {0, 0};
+    const char *end = (const char *)payload + nbytes;
+    unsigned low = 0, high = 0;
     if (!bsp_choices.is_logged || bsp_part != BSP_WITHIN)
         return;
-    if (nbytes >= (int)sizeof last)
-        memcpy(&last, (const char *)payload + nbytes - sizeof last, sizeof last);
-    else if (nbytes == (int)sizeof last.low)
-        memcpy(&last.low, payload, sizeof last.low);
-    log_call((struct logged){CALL_SEND, (unsigned)place, pid, (unsigned)payload, last.low, last.high, nbytes, (unsigned)tag});
+    if (nbytes >= 8) {
+        low = word_at(end - 8);
+        high = word_at(end - 4);
+    } else if (nbytes == 4) {
+        low = word_at(payload);
+    }
+    log_in_line((struct logged){CALL_SEND, (unsigned)place, pid, (unsigned)payload, low, (int)high, nbytes, (unsigned)tag});
 }
 
 void __wrap_bsp_send(int pid, const void *tag, const void *payload, int payload_nbytes)
@@ -541,16 +565,22 @@ static void keep_written(const struct call *it)
     } while (0)
 
 /* Messages. If they may come in another order, or are to be spoilt, they are taken out of the machine's queue when the program first looks at
-   it. */
+   it. The tag lies before the payload. If no message is left, or none was taken out, `next` is `end`. */
 struct message {
-    char *tag, *payload;
+    char *payload;
     int size;
 };
 static struct {
-    struct message *all;
-    int is_kept, count, next, bytes;
+    struct message *next, *end;
+    int is_kept, bytes;
     int received_tag, tag, next_tag; /* the sizes of tags in the queue, in this superstep and in the next one */
 } queue;
+
+/* How many bytes before its payload a message has its tag. */
+static size_t tag_room(void)
+{
+    return ((size_t)queue.received_tag + 7) & ~(size_t)7;
+}
 
 extern void __real_bsp_set_tagsize(int *tag_nbytes);
 extern void __real_bsp_qsize(int *nmessages, int *accum_nbytes);
@@ -567,54 +597,57 @@ void __wrap_bsp_set_tagsize(int *tag_nbytes)
 }
 
 /* Swaps messages as far as they are chosen. tools/bsptools/prepare/library_choices.py makes the same swaps. */
-static void swap_messages(void)
+static void swap_messages(struct message *all, int count)
 {
     unsigned random = bsp_choices.seed + here.superstep * 2654435761u + here.rank * 40503u, number = bsp_choices.seed;
+    unsigned chosen = chosen_here(), order = bsp_choices.order;
     int i, other;
-    for (i = 0; i < queue.count - 1 && is_chosen((unsigned)i); i++) {
+    for (i = 0; i < count - 1 && (unsigned)i < chosen; i++) {
+        unsigned left = (unsigned)(count - i);
         other = i;
-        if (bsp_choices.order == NUMBERED) {
-            other = i + (int)(number % (unsigned)(queue.count - i));
-            number /= (unsigned)(queue.count - i);
-        } else if (bsp_choices.order == SHUFFLED) {
+        if (order == SHUFFLED) {
             random = random * 1664525u + 1013904223u;
-            other = i + (int)((random >> 8) % (unsigned)(queue.count - i));
-        } else if (i < queue.count / 2) {
-            other = queue.count - 1 - i;
+            other = i + (int)((random >> 8) % left);
+        } else if (order == NUMBERED) {
+            other = i + (int)(number % left);
+            number /= left;
+        } else if (i < count / 2) {
+            other = count - 1 - i;
         }
-        struct message message = queue.all[i];
-        queue.all[i] = queue.all[other];
-        queue.all[other] = message;
+        struct message message = all[i];
+        all[i] = all[other];
+        all[other] = message;
     }
 }
 
 /* Takes what is left in the machine's queue. The calls are made here, since of many messages most of a run would be these. */
 static __attribute__((noinline)) void keep_queue(void)
 {
-    int messages, bytes, i;
-    size_t tag_size = ((size_t)queue.received_tag + 7) & ~(size_t)7;
+    int messages, bytes;
+    size_t tag_size = tag_room();
+    struct message *it;
     char *place;
     machine_call_2(CALL_QSIZE, (long)&messages, (long)&bytes);
-    queue.all = (struct message *)take_room((size_t)messages * sizeof *queue.all, 0);
+    queue.next = (struct message *)take_room((size_t)messages * sizeof *queue.next, 0);
+    queue.end = queue.next + messages;
     if ((size_t)(room.high - room.low) / (tag_size + 7 + 1) < (size_t)messages)
         take_room((size_t)-8, 0);
     /* As much as they can take, in steps of 8 bytes each. */
     place = take_room((size_t)messages * (tag_size + 7) + (size_t)bytes, 0);
-    for (i = 0; i < messages; i++) {
-        struct message *it = &queue.all[i];
-        it->tag = place;
-        it->payload = place += tag_size;
-        machine_call_2(CALL_GET_TAG, (long)&it->size, (long)it->tag);
-        machine_call_2(CALL_MOVE, (long)it->payload, it->size);
-        place += ((size_t)it->size + 7) & ~(size_t)7;
+    for (it = queue.next; it < queue.end; it++) {
+        char *payload = place + tag_size;
+        int size;
+        machine_call_2(CALL_GET_TAG, (long)&size, (long)place);
+        machine_call_2(CALL_MOVE, (long)payload, size);
+        *it = (struct message){payload, size};
+        place = payload + (((size_t)size + 7) & ~(size_t)7);
     }
     room.low = place;
     queue.bytes = bytes;
-    queue.count = messages;
-    queue.next = 0;
     queue.is_kept = 1;
+    here.is_queue_plain = 0;
     if (bsp_choices.order != AS_SENT)
-        swap_messages();
+        swap_messages(queue.next, messages);
 }
 
 /* Whether the queue is kept here. Outside of bsp_begin and bsp_end the functions themselves stop the program. */
@@ -624,9 +657,6 @@ static inline int keeps_queue(int is_wanted)
         keep_queue();
     return queue.is_kept;
 }
-/* What is chosen of messages. In a program of bspcc --portable=accesses the sizes of messages are wanted, too. */
-#define IS_OTHERWISE (bsp_choices.order != AS_SENT || bsp_choices.queue != 0 || bsp_access != NULL)
-
 void __wrap_bsp_qsize(int *nmessages, int *accum_nbytes)
 {
     if (!keeps_queue(IS_OTHERWISE)) {
@@ -634,7 +664,7 @@ void __wrap_bsp_qsize(int *nmessages, int *accum_nbytes)
         return;
     }
     if (nmessages != NULL)
-        *nmessages = queue.count - queue.next;
+        *nmessages = (int)(queue.end - queue.next);
     if (accum_nbytes != NULL)
         *accum_nbytes = queue.bytes;
 }
@@ -645,19 +675,19 @@ void __wrap_bsp_get_tag(int *status, void *tag)
         __real_bsp_get_tag(status, tag);
         return;
     }
-    if (queue.next == queue.count) {
+    if (queue.next == queue.end) {
         *status = -1;
         return;
     }
-    *status = queue.all[queue.next].size;
+    *status = queue.next->size;
     WRITES(tag, queue.received_tag, __builtin_return_address(0));
-    memcpy(tag, queue.all[queue.next].tag, (size_t)queue.received_tag);
+    memcpy(tag, queue.next->payload - tag_room(), (size_t)queue.received_tag);
 }
 
 /* Takes the first message that is left. */
 static const struct message *next_message(void)
 {
-    const struct message *it = &queue.all[queue.next++];
+    const struct message *it = queue.next++;
     queue.bytes -= it->size;
     return it;
 }
@@ -678,27 +708,41 @@ static __attribute__((noinline)) void move_kept(void *payload, int reception_nby
     const struct message *it = next_message();
     int count = it->size < reception_nbytes ? it->size : reception_nbytes;
     WRITES(payload, count, place);
-    /* As of most messages, which have a number. */
-    if (count == (int)sizeof(any_word) && (size_t)payload % sizeof(any_word) == 0)
-        *(any_word *)payload = *(const any_word *)it->payload;
-    else
-        memcpy(payload, it->payload, (size_t)count);
+    memcpy(payload, it->payload, (size_t)count);
+}
+
+/* Takes a message that is one word, as most are that have a number, and answers whether the next one is. */
+static inline int move_word(void *payload, int reception_nbytes)
+{
+    const struct message *it = queue.next;
+    int is_word = it != queue.end && bsp_access == NULL && it->size == (int)sizeof(any_word);
+    if (!is_word || reception_nbytes < (int)sizeof(any_word) || (size_t)payload % sizeof(any_word) != 0)
+        return 0;
+    *(any_word *)payload = *(const any_word *)next_message()->payload;
+    return 1;
+}
+
+static __attribute__((noinline)) void move_any(void *payload, int reception_nbytes, const void *place)
+{
+    if (reception_nbytes < 0 || !keeps_queue(IS_OTHERWISE)) {
+        log_move(place);
+        __real_bsp_move(payload, reception_nbytes);
+    } else if (queue.next != queue.end) {
+        move_kept(payload, reception_nbytes, place);
+    } else if (bsp_choices.is_logged && bsp_part == BSP_WITHIN) {
+        log_call((struct logged){.number = LOG_NO_MESSAGE, .place = (unsigned)place});
+    }
 }
 
 void __wrap_bsp_move(void *payload, int reception_nbytes)
 {
-    if (reception_nbytes < 0 || !keeps_queue(IS_OTHERWISE)) {
-        if (here.is_plain) {
-            __real_bsp_move(payload, reception_nbytes);
-            return;
-        }
-        log_move(__builtin_return_address(0));
+    if (move_word(payload, reception_nbytes))
+        return;
+    if (here.is_queue_plain) {
         __real_bsp_move(payload, reception_nbytes);
-    } else if (queue.next == queue.count) {
-        LOG(LOG_NO_MESSAGE, 0, 0, 0, 0, 0, 0);
-    } else {
-        move_kept(payload, reception_nbytes, __builtin_return_address(0));
+        return;
     }
+    move_any(payload, reception_nbytes, __builtin_return_address(0));
 }
 
 /* In each run the memory of malloc is without these messages, so that its pieces have the same numbers. */
@@ -707,10 +751,10 @@ int __wrap_bsp_hpmove(void **tag_ptr, void **payload_ptr)
     const struct message *it;
     if (!keeps_queue(1))
         return __real_bsp_hpmove(tag_ptr, payload_ptr);
-    if (queue.next == queue.count)
+    if (queue.next == queue.end)
         return -1;
     it = next_message();
-    *tag_ptr = it->tag;
+    *tag_ptr = it->payload - tag_room();
     *payload_ptr = it->payload;
     return it->size;
 }
@@ -840,6 +884,7 @@ void __wrap_bsp_sync(void)
     here.calls = here.pieces = bsp_requested = 0;
     begin_superstep();
     queue.is_kept = 0;
+    queue.next = queue.end;
     queue.received_tag = queue.tag;
     queue.tag = queue.next_tag;
     /* GCC goes on there with what belongs to the caller alone. */

@@ -32,7 +32,7 @@ from ..program import elf
 from ..refusals import Refused, counted
 from . import bounded_run
 from .bounded_run import Ran
-from .evidence import BROKEN, LATE, LONG, MOST_SHOWN, Ended, Evidence
+from .evidence import BROKEN, LATE, LONG, MOST_SHOWN, Ended, Evidence, cut
 from .sheet import Bound
 
 MOST_TEXT, MOST_LINES = 1 << 20, 30
@@ -118,7 +118,7 @@ class Trial:
     def make(self) -> Evidence:
         """Tries all of it, as far as the host lets it."""
         try:
-            return self.tried()
+            return self.tried().cut()
         except OSError as error:
             if error.errno not in LACKS:
                 raise
@@ -169,7 +169,7 @@ class Trial:
         """Has the compiler write a file, and answers whether it did."""
         ran = bounded_run.run(words, COMPILER_SECONDS, MOST_COMPILED, compiler_environment(self.folder))
         is_built = ran.how == bounded_run.ENDED and ran.status == 0 and target.is_file()
-        said = [it for it in ran.said.decode(errors="replace").replace(f"{self.folder}/", "").splitlines() if it.strip()]
+        said = cut(it for it in ran.said.decode(errors="replace").replace(f"{self.folder}/", "").splitlines() if it.strip())
         if not is_built:
             self.found.lack = next(filter(self.is_lack, said), SLOW if ran.how == bounded_run.LATE else "")
         if ran.how != bounded_run.ENDED:
@@ -259,14 +259,15 @@ class Trial:
         return ended
 
     def ended(self, job: Job, ran: Ran, most: int) -> Tuple[Ended, Optional[Report]]:
-        """What a run came to, and its report if it has one."""
+        """What a run came to, and its report if it has one. That is parted first: a program can print its mark with a length that would reach
+        into the report."""
+        parted = part(ran.output) if ran.how == bounded_run.ENDED else None
+        written, report = parted or (memoryview(ran.output), None)
         marks = Marks(job.mark)
-        pieces = list(marks.take(ran.output))
-        whole = b"".join(it for kind, it in pieces if kind == OUTPUT) + marks.left()
+        pieces = list(marks.take(bytes(written)))
+        output = b"".join(it for kind, it in pieces if kind == OUTPUT) + marks.left()
         errors = b"".join(it for kind, it in pieces if kind == ERROR)[:most].decode(errors="replace")
-        parted = part(whole) if ran.how == bounded_run.ENDED else None
-        output, report = parted or (memoryview(whole), None)
-        text = bytes(output[:most]).decode("latin-1")
+        text = output[:most].decode("latin-1")
         if len(output) > most:
             return Ended(LONG, text, errors), None
         if report is None:

@@ -11,6 +11,7 @@ from ..refusals import Unfit
 
 SUPERSTEP = re.compile(rb"superstep (\d+): w (\d+) h (\d+)((?: [a-z]+ \d+)*) (turned|last)$")
 BEGIN, WORK = b"superstep 0: w ", re.compile(rb"superstep \d+: w (\d+)")
+MESSAGES = re.compile(rb"superstep \d+: w \d+ h \d+ m (\d+)")
 TOTAL = re.compile(rb"total (\d+)$")
 # More than any w, h or m, and than the number of any superstep: a node makes 2^40 steps at most.
 MOST_COST = 1 << 40
@@ -74,12 +75,14 @@ def part(written: bytes) -> tuple[memoryview, Report] | None:
 
 
 class Brief(NamedTuple):
-    """What is compared of runs: the output, the outcome, the number of the last superstep, and the sum of all w."""
+    """What is compared of runs: the output, the outcome, the number of the last superstep, and the sum of all w. Also the largest m, which is
+    0 if the report has none."""
 
     output: memoryview
     outcome: str
     last: int
     work: int
+    messages: int
 
 
 def brief(written: bytes) -> Brief | None:
@@ -91,7 +94,8 @@ def brief(written: bytes) -> Brief | None:
     if last is None or not (TOTAL.match(lines[-3]) and OUTCOME.match(lines[-2])) or lines[-1] or int(last[1]) != len(lines) - 4:
         return None
     work = sum(map(int, WORK.findall(written, begin)))
-    return Brief(memoryview(written)[:begin], lines[-2].decode(), int(last[1]), work)
+    messages = max(map(int, MESSAGES.findall(written, begin)), default=0)
+    return Brief(memoryview(written)[:begin], lines[-2].decode(), int(last[1]), work, messages)
 
 
 def checked(report: Report) -> Report:

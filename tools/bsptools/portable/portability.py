@@ -149,10 +149,23 @@ class Portable:
     def begin(self) -> None:
         """Begins the runs that depend on nothing but whether the program writes something."""
         self.trials.begin_all(self.fresh_choices())
+        self.begin_likely_orders()
         if self.subject.options.sources:
             for value in VALUES:
                 self.builds.begin(*options_for(value))
             self.valued = self.builds.pool.submit(self.with_values)
+
+    def begin_likely_orders(self) -> None:
+        """Begins runs with messages in other orders where these are likely tried, before the calls of the run as it is are known: m counts the
+        messages of a rank."""
+        if self.trials.room and self.ended.messages > MOST_ORDERED and self.has(*QUEUE):
+            self.begin_orders(shuffled_orders(self.subject.options.tries))
+
+    def begin_orders(self, tried: list[Choices]) -> None:
+        """Begins runs with messages in these orders, which are the first of those that are tried."""
+        if not self.is_silent:
+            self.trials.unsummed.update(it for it in tried[MOST_NOTED:] if it.order != NUMBERED)
+        self.trials.begin_all(tried, self.has(*ASKING))
 
     def fresh_choices(self) -> list[Choices]:
         """The runs with other bytes in fresh memory. Where a run is told by what it writes alone, one of them has also all else that seldom
@@ -301,10 +314,7 @@ class Portable:
     def begin_others(self) -> None:
         """Begins the runs that depend on nothing but the calls of the run as it is."""
         if self.trials.room and self.made(SEND) and self.has(*QUEUE):
-            tried, _ = self.orders()
-            if not self.is_silent:
-                self.trials.unsummed.update(it for it in tried[MOST_NOTED:] if it.order != NUMBERED)
-            self.trials.begin_all(tried, self.has(*ASKING))
+            self.begin_orders(self.orders()[0])
         if self.trials.room and any(it.has_unbuffered for it in self.log) and self.has(*CALLS):
             self.trials.begin_all([Choices(unbuffered=WATCHED), *TIMES])
             if "bsp_ranges" not in self.code.names and self.subject.options.sources:
@@ -403,17 +413,25 @@ class Portable:
     @functools.lru_cache(maxsize=1)
     def orders(self) -> tuple[list[Choices], str]:
         """The orders of messages that are tried, and their name."""
-        most, tries = max((step.most_sent() for step in self.log), default=0), self.subject.options.tries
-        reversed_ones = [Choices(order=REVERSED)] if most > 1 else []
+        most, tries = self.most_sent(), self.subject.options.tries
         if most <= MOST_ORDERED:
+            reversed_ones = [Choices(order=REVERSED)] if most > 1 else []
             numbered = [Choices(order=NUMBERED, seed=it) for it in range(1, math.factorial(most))] if most > 2 else []
             return reversed_ones + numbered, f"messages in all orders of the {most} or fewer of a rank"
-        seeds = range(1, max(tries, 1))
-        shuffled = [Choices(order=SHUFFLED, seed=it) for it in seeds]
-        name = f"messages in {counted(tries, 'order')} (reversed" + (f", shuffled with seeds 1 to {seeds[-1]})" if shuffled else ")")
+        tried = shuffled_orders(tries)
+        name = f"messages in {counted(tries, 'order')} (reversed" + (f", shuffled with seeds 1 to {tried[-1].seed})" if tries > 1 else ")")
         sums = sums_of_messages.orders_of_sums(self.log, MOST_SUMS) if tries > 1 else []
         name += f" and {len(sums)} in which the sums of their numbers are others" if sums else ""
-        return reversed_ones + shuffled + sums, name
+        return tried + sums, name
+
+    def most_sent(self) -> int:
+        """How many messages come to a rank in a superstep, where most do; of more than MOST_ORDERED, some number above it."""
+        most = 0
+        for step in self.log:
+            most = max(most, step.most_sent())
+            if most > MOST_ORDERED:
+                break
+        return most
 
     def messages(self) -> None:
         """Messages in other orders."""
@@ -598,6 +616,11 @@ class Portable:
                 output = "same output" if ending.output == self.ended.output else "other output"
                 told.append(f"with {counted(nodes, 'node')}: {output if ending.outcome == 'ended' else ending.outcome}")
         self.verdict.notes += [f"note: {', '.join(told)}"] if told else []
+
+
+def shuffled_orders(tries: int) -> list[Choices]:
+    """So many orders of messages: the reversed one, and shuffled ones."""
+    return [Choices(order=REVERSED), *(Choices(order=SHUFFLED, seed=it) for it in range(1, tries))]
 
 
 def options_for(value: str) -> list[str]:

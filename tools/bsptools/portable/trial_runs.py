@@ -47,13 +47,14 @@ class NoRoom(Exception):
 @dataclass(frozen=True)
 class Ending:
     """What a run wrote, and how it ended; files are there where --out has the program write them, each with its rank and its name. Its last
-    superstep, the sum of all w, and sums of ranks over their variables, are no part of what is compared."""
+    superstep, the sum of all w, the largest m, and sums of ranks over their variables, are no part of what is compared."""
 
     output: bytes
     outcome: str
     files: tuple[tuple[int, bytes, bytes], ...]
     last: int = field(compare=False)
     ticks: int = field(compare=False)
+    messages: int = field(compare=False)
     sums: tuple[tuple[int, bytes], ...] = field(compare=False, default=())
 
 
@@ -112,7 +113,7 @@ def ending_of(done: subprocess.CompletedProcess[bytes], mark: bytes, calls: list
             else:
                 written.take(record)
     files = tuple((it.rank, it.name, bytes(it.content)) for it in written.files.values())
-    return Ending(bytes(output + marks.left()), found.outcome, files, found.last, found.work, tuple(sorted(sums.items())))
+    return Ending(bytes(output + marks.left()), found.outcome, files, found.last, found.work, found.messages, tuple(sorted(sums.items())))
 
 
 def with_log(content: bytes, mark: bytes, writes_files: bool) -> bytes:

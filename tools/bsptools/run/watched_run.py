@@ -100,24 +100,24 @@ class Outputs:
         self.is_piped, self.given = stat.S_ISFIFO(os.fstat(streams.STDOUT).st_mode), 0.0
 
     def take(self, content: bytes) -> None:
-        """Writes what has come, but for what may be a mark or the report."""
+        """Writes what has come, but for what may be a mark or the report. Where that begins is found first: a program can print its mark with
+        a length that would reach into the report."""
         self.received += len(content)
-        for kind, piece in self.marks.take(content):
-            is_error = kind == ERROR
-            self.has_null = self.has_null or NULL_TEXT in piece
-            # A report is in one piece.
-            if kind != OUTPUT:
-                self._give(False, self.tail.left())
-                self.tail = Tail()
-            if kind not in (OUTPUT, ERROR):
-                self._keep(record_of(kind, piece))
-            # What a run writes behind a question for a file is another with that file.
-            elif not self.finder.names:
-                self._give(is_error, piece if is_error else self.tail.take(piece))
+        self._take(self.tail.take(content))
         if self.finder.names and not self.repeated.is_long:
             raise Wanted(self.finder.names)
         if sum(len(it) for _, it in self.kept or []) > MOST_KEPT:
             self.begin()
+
+    def _take(self, content: bytes) -> None:
+        """Writes what certainly is none of the report, but for what may be a mark."""
+        for kind, piece in self.marks.take(content):
+            self.has_null = self.has_null or NULL_TEXT in piece
+            if kind not in (OUTPUT, ERROR):
+                self._keep(record_of(kind, piece))
+            # What a run writes behind a question for a file is another with that file.
+            elif not self.finder.names:
+                self._give(kind == ERROR, piece)
 
     def _keep(self, record: Record | None) -> None:
         if record is not None:
@@ -139,11 +139,11 @@ class Outputs:
 
     def end(self) -> report.Report | None:
         """Writes what is left, but for the report, which is answered if there is one."""
-        last = self.tail.take(self.marks.left())
         left = self.tail.left()
         parted = report.part(left)
         output, found = parted or (memoryview(left), None)
-        self._give(False, last + bytes(output))
+        self._take(bytes(output))
+        self._give(False, self.marks.left())
         self.begin()
         self.clear()
         self.end_line()

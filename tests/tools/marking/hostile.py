@@ -2,8 +2,10 @@
 
 from __future__ import annotations
 
+import html
 import os
 import pathlib
+import re
 import shlex
 import subprocess
 import sys
@@ -20,7 +22,7 @@ from bsptools.marking import bounded_run, confinement, sheet_marking  # noqa: E4
 
 LANDLOCK = Tool("Landlock", "linux-image-amd64", lambda _: confinement.version() > 0)
 SECRET = "kept from hand-ins"
-SHEET = """title = "Secrets <b>&"
+SHEET = """title = "Secrets <b>&\\u001b[2J"
 nodes = [1, 2]
 expected = "secret.txt"
 seconds = 20
@@ -241,11 +243,16 @@ ENDLESS = {
     "quotes.c": '#if 0\n"' + '\\"' * MANY + "\n#endif\n",
 }
 DIGITS = PROGRAM % ("", 'for (int i = 0; bsp_pid() == 0 && i < 60000; i++) putchar(i < 59999 ? \'7\' : \'x\');')
+# Names that are as long: of a function that the linker does not find, and of one that is stopped.
+NAMED = {
+    "symbol.c": f'extern void f(void) __asm__("a${"b" * MANY}");\n' + PROGRAM % ("", "f();"),
+    "function.c": PROGRAM % (f"static void f{'b' * MANY}(void) {{ *(volatile int *)0x7fffff00 = 1; }}", f"f{'b' * MANY}();"),
+}
 SOON = 150
 
 
 def endless(tally: Tally, folder: pathlib.Path) -> None:
-    """What reads a text or an output of very many pieces without an end comes to an end."""
+    """What reads a text or an output of very many pieces without an end, or a very long name, comes to an end."""
     bench = Bench(folder / "endless")
     bench.write("it.txt", "it\n")
     bench.write("1.txt", "1\n")
@@ -253,6 +260,7 @@ def endless(tally: Tally, folder: pathlib.Path) -> None:
     bench.write("numbers.toml", 'nodes = [1]\nexpected = "1.txt"\ncompare = "numbers"\n')
     front = {".c": PRINTS, ".cpp": PRINTS.replace("#include <bsp.h>", 'extern "C" {\n#include <bsp.h>\n}')}
     cases = [("texts.toml", name, front[pathlib.Path(name).suffix] + text, ALL_RIGHT) for name, text in ENDLESS.items()]
+    cases += [("texts.toml", name, text, NOT_ALL_RIGHT) for name, text in NAMED.items()]
     for sheet, name, text, wanted in [*cases, ("numbers.toml", "digits.c", DIGITS, NOT_ALL_RIGHT)]:
         bench.write(name, text)
         words = ["timeout", str(SOON), str(REPO / "bspcheck"), "--jobs", "1", sheet, name]
@@ -343,6 +351,29 @@ def compilers(tally: Tally, folder: pathlib.Path) -> None:
         tally.expect(name, found == [("right", False), ("does not compile", True)], (found, done))
 
 
+# What replaces the solution if it is run where it may write files.
+REPLACES = PROGRAM % ("", 'FILE *f = fopen("right.c", "w"); if (f) { fputs("int x;", f); fclose(f); } puts("taken");')
+
+
+def repeated(tally: Tally, folder: pathlib.Path) -> None:
+    """The commands that make a run of a hand-in again change no file of those who give them."""
+    bench = Bench(folder / "repeated")
+    bench.write("sheet.toml", 'nodes = [1]\nsolution = "right.c"\n')
+    right = PROGRAM % ("", 'puts("it");')
+    bench.write("right.c", right)
+    bench.write("replaces.c", REPLACES)
+    done = bench.run("sheet.toml", "replaces.c", words=["--html", "m.html"])
+    page = (bench.folder / "m.html").read_text()
+    lines = [*re.findall(r"(?m)^  to .*?: (.*bsprun .*)$", done.stdout), *map(html.unescape, re.findall(r"<pre>([^<]*bsprun [^<]*)</pre>", page))]
+    commands = list(dict.fromkeys(lines))
+    tally.expect("commands that make a run again", len(commands) == 3, (commands, done))
+    for command in commands:
+        bench.write("right.c", right)
+        subprocess.run(command, shell=True, cwd=bench.folder, stdin=subprocess.DEVNULL, capture_output=True, timeout=SECONDS, check=False)
+        found = (bench.folder / "right.c").read_text()
+        tally.expect(f"the solution after {command}", found == right, found)
+
+
 # What is dear, and prints that it is cheap.
 FORGES = (pathlib.Path(__file__).resolve().parents[1] / "c/watched/forges.c").read_text()
 CHEAP = """nodes = [1]
@@ -404,6 +435,7 @@ def parts(tally: Tally, folder: pathlib.Path) -> List[Part]:
         Part("names of hand-ins", lambda: names(tally, folder), wanted),
         Part("calls that are hidden", lambda: hidden(tally, folder), wanted),
         Part("texts without an end", lambda: endless(tally, folder), wanted),
+        Part("commands that make a run again", lambda: repeated(tally, folder), wanted),
         Part("reports that are made up", lambda: forges(tally, folder), wanted),
         Part("links of hand-ins", lambda: links(tally, folder)),
     ]

@@ -86,14 +86,19 @@ def checked(options: argparse.Namespace) -> int:
         if options.freeze:
             wanted_file.write_to(options.freeze, sheet.runs, marking.plan.runs, marking.wanted)
         if options.costs:
-            put("".join(f"{it}\n" for it in mark_table.costs(sheet, marking.wanted)))
+            put_lines(mark_table.costs(sheet, marking.wanted))
         if not found:
             return 0
         tell_known(marking, len(found))
         write(options, marking, found)
-        put("".join(f"{it}\n" for it in [*mark_table.lines(sheet, found), *advice(marking, found)]))
+        put_lines([*mark_table.lines(sheet, found), *advice(marking, found)])
     expect_judged(sheet, found)
     return 0 if all(it.first is None for it in found) else NOT_ALL_RIGHT
+
+
+def put_lines(lines: list[str]) -> None:
+    """Writes lines on standard output. A sheet may have come from somebody else: nothing of its texts is a command to a terminal."""
+    put("".join(f"{printable(it)}\n" for it in lines))
 
 
 def expect_judged(sheet: Sheet, found: list[Marks]) -> None:

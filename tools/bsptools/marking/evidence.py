@@ -2,6 +2,7 @@
 
 from __future__ import annotations
 
+from collections.abc import Iterable
 from dataclasses import asdict, dataclass, field
 from typing import Any, Dict, List, Optional
 
@@ -10,6 +11,8 @@ LATE, LONG, BROKEN = "too long", "too much output", "broken off"
 WELL = "ended"
 # Supersteps that are kept for pictures.
 MOST_SHOWN = 120
+# Letters of a line that are kept. A hand-in chooses names in it, and what is looked for in a name of 100,000 letters takes minutes.
+MOST_OF_A_LINE = 2000
 
 
 @dataclass
@@ -56,9 +59,20 @@ class Evidence:
     portable: Optional[List[str]] = None
     is_portable: bool = True
 
+    def cut(self) -> Evidence:
+        """The same, with no more letters of each line than are kept."""
+        for lines in (self.said, self.portable or [], *(part for it in self.runs for part in (it.why, it.race, *it.dear.values()))):
+            lines[:] = cut(lines)
+        return self
+
     def as_json(self) -> Dict[str, Any]:
         """What JSON keeps of it."""
         return asdict(self)
+
+
+def cut(lines: Iterable[str]) -> List[str]:
+    """Lines, with no more letters of each than are kept."""
+    return [it if len(it) <= MOST_OF_A_LINE else f"{it[: MOST_OF_A_LINE - 3]}..." for it in lines]
 
 
 def of_json(known: Dict[str, Any]) -> Evidence:

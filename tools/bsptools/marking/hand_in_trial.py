@@ -32,7 +32,7 @@ from ..program import elf
 from ..refusals import Refused, counted
 from . import bounded_run
 from .bounded_run import Ran
-from .evidence import BROKEN, LATE, LONG, MOST_SHOWN, Ended, Evidence
+from .evidence import BROKEN, LATE, LONG, MOST_SHOWN, Ended, Evidence, cut
 from .sheet import Bound
 
 MOST_TEXT, MOST_LINES = 1 << 20, 30
@@ -118,7 +118,7 @@ class Trial:
     def make(self) -> Evidence:
         """Tries all of it, as far as the host lets it."""
         try:
-            return self.tried()
+            return self.tried().cut()
         except OSError as error:
             if error.errno not in LACKS:
                 raise
@@ -169,7 +169,7 @@ class Trial:
         """Has the compiler write a file, and answers whether it did."""
         ran = bounded_run.run(words, COMPILER_SECONDS, MOST_COMPILED, compiler_environment(self.folder))
         is_built = ran.how == bounded_run.ENDED and ran.status == 0 and target.is_file()
-        said = [it for it in ran.said.decode(errors="replace").replace(f"{self.folder}/", "").splitlines() if it.strip()]
+        said = cut(it for it in ran.said.decode(errors="replace").replace(f"{self.folder}/", "").splitlines() if it.strip())
         if not is_built:
             self.found.lack = next(filter(self.is_lack, said), SLOW if ran.how == bounded_run.LATE else "")
         if ran.how != bounded_run.ENDED:

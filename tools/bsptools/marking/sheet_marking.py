@@ -346,9 +346,14 @@ class Marking:
     # What a person repeats.
 
     def again(self, name: str, number: int, *options: str) -> str:
-        """The command that makes a run of a hand-in again, with its costs, or with other options of bsprun to look for the usual mistakes."""
+        """The command that makes a run of a hand-in again, with its costs, or with other options of bsprun to look for the usual mistakes. It has
+        the files that the sheet gives, and writes none: a hand-in could replace files of whoever gives the command."""
+        return self.command(name, number, "--no-files", *(options or ["--report", "-", *self.prices(number)]))
+
+    def command(self, name: str, number: int, *options: str) -> str:
+        """The command that gives bsprun a run of a hand-in, with these options."""
         sheet, run, given = self.sheet, self.sheet.runs[number], self.input_file(number)
-        words = [tool("bsprun"), "-n", str(run.nodes), *(options or ["--report", "-", *self.prices(number)])]
+        words = [tool("bsprun"), "-n", str(run.nodes), *options]
         words += ["--memory", str(sheet.memory)] if sheet.memory != MEMORY else []
         words += [f"-D{it}={value}" for it, value in self.plan.runs[number].defines]
         words += ["--input", given] if given else []
@@ -356,8 +361,8 @@ class Marking:
         return shlex.join([*words, name if not name.startswith("-") else f"./{name}", *run.case.args])
 
     def watched(self, name: str, number: int) -> str:
-        """The command that writes a page in which a run of a hand-in is watched."""
-        return self.again(name, number, "--page", "run.html", *self.prices(number))
+        """The command that writes a page in which a run of a hand-in is watched. A program in a page writes no files."""
+        return self.command(name, number, "--page", "run.html", *self.prices(number))
 
     def prices(self, number: int) -> List[str]:
         """The options of bsprun for the prices of a run."""

@@ -4,8 +4,10 @@ from __future__ import annotations
 
 import re
 
-# What has no words of a program in it, and a `long` that is none here, since it has 64 bits or a point.
-LEFT_OUT = r'(?s)//[^\n]*|/\*.*?\*/|"(?:\\.|[^"\\\n])*"|\'(?:\\.|[^\'\\\n])\''
+# What has no words of a program in it. A piece without an end matches too, with an empty end: else each of very many would be looked through up
+# to the end of the text.
+LEFT_OUT = re.compile(r'//[^\n]*|/\*.*?(\*/|\Z)|"(?:\\.|[^"\\\n])*("?)|\'(?:\\.|[^\'\\\n])\'', re.DOTALL)
+# A `long` that is none here, since it has 64 bits or a point.
 OTHERS = r"\blong(?:\s+(?:unsigned|signed|int))*\s+(?:long|double)\b"
 # What makes a `long`, or what is one elsewhere: types, numbers, and functions of C and POSIX.
 LONGS = (
@@ -17,4 +19,6 @@ LONGS = (
 
 def has_longs(text: str) -> bool:
     """Whether a text in C may compute in a type that has 32 bits here and 64 elsewhere."""
-    return re.search(LONGS, re.sub(OTHERS, "", re.sub(LEFT_OUT, " ", text))) is not None
+    # A piece without an end is none of C, as in a text of C++ of several lines: it stays.
+    words = LEFT_OUT.sub(lambda it: it[0] if "" in it.groups() else " ", text)
+    return re.search(LONGS, re.sub(OTHERS, "", words)) is not None

@@ -55,6 +55,8 @@ class Value(NamedTuple):
     advice: str = ADVICE
 
 
+# Pieces of a text, and for how many seconds it may be looked at.
+MANY, SOON = 300_000, 60
 FITS = " does not fit into 'long int', which has 32 bits here"
 TOLD: Dict[str, Value] = {
     "product": Value('printf("%ld\\n", (long)n * n)', f"50000 * 50000{FITS}"),
@@ -369,6 +371,16 @@ class Longs:
         right = done.returncode == 0 and "gets these and not 4" in done.stderr and f"{FITS}: {ADVICE}; the same on 1 more rank\n" in done.stderr
         self.tally.expect("fewer nodes", right, done)
 
+    def pieces(self) -> None:
+        """A source is read soon in which each of very many pieces without an end would be looked for from each letter on."""
+        texts = {"raw.cpp": 'const char *text = R"(\n' + "/*x" * MANY + ')";\n', "quotes.c": '#if 0\n"' + '\\"' * MANY + "\n#endif\n"}
+        for name, text in texts.items():
+            self.write(name, text + "int main(void)\n{\n    return 0;\n}\n")
+            words = ["timeout", str(SOON), str(REPO / "bsprun"), name]
+            done = subprocess.run(words, cwd=self.folder, stdin=subprocess.DEVNULL, capture_output=True, env=self.environment, timeout=SECONDS, check=False)
+            self.tally.expect(f"{name} is run soon", done.returncode == 0, (done.returncode, done.stderr[-300:]))
+        self.nothing_is_left("pieces without an end")
+
     def bounded(self) -> None:
         """Of what does not end nothing is told, and the run ends."""
         source = self.write("endless.c", ENDLESS)
@@ -425,6 +437,7 @@ PARTS: List[Tuple[str, Callable[[Longs], None], Tuple[Tool, ...]]] = [
     ("numbers that are read", Longs.read, TOLD_LINES),
     ("long on one processor", Longs.processor, COMPILER),
     ("long on fewer nodes", Longs.fewer, COMPILER),
+    ("texts without an end", Longs.pieces, (*COMPILER, CLASSES)),
     ("a long run beside", Longs.bounded, COMPILER),
     ("the end of a run beside", Longs.ended, TOLD_LINES),
 ]

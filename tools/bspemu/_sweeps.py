@@ -135,7 +135,7 @@ def made(words: List[str], executor: Optional[concurrent.futures.Executor]) -> S
     if wrong:
         raise BspError("\n".join(wrong))
     table = result_table.table(whole.points, whole.places, [name for name, _ in options.define])
-    return Sweep(table, table_record.made(options, words, whole.points, whole.store, table))
+    return Sweep(table, table_record.made(options, words, whole.points, whole.store, table, whole.sought()))
 
 
 class Sweep:

@@ -11,6 +11,8 @@ from typing import Any, NoReturn
 from . import emulator, limits
 from .refusals import Refused, printable
 
+# What has options of bsprun in the environment.
+FLAGS = "BSPRUN_FLAGS"
 # Of a range of numbers.
 MOST_LISTED = 10_000
 UNITS = {"K": 1 << 10, "M": 1 << 20, "G": 1 << 30}

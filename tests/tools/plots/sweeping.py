@@ -72,6 +72,27 @@ int main(int argc, char **argv)
 }
 """
 
+# Works for as long as a file says, which bsprun gives by itself if it is here, and writes what it has read.
+SEEKING = """\
+#include <bsp.h>
+#include <stdio.h>
+int main(int argc, char **argv)
+{
+    int n = 0;
+    bsp_begin(bsp_nprocs());
+    FILE *file = fopen(argc > 1 ? argv[1] : "size.txt", "r");
+    if (file)
+        fscanf(file, "%d", &n);
+    for (volatile int i = 0; i < n; i++)
+        ;
+    file = fopen("written.txt", "a");
+    if (file)
+        fprintf(file, "%d\\n", n);
+    bsp_end();
+    return 0;
+}
+"""
+
 
 def parts(make: Parts) -> List[Part]:
     """Sweeps by the engines of one host, and what else there is to them."""
@@ -88,6 +109,7 @@ def parts(make: Parts) -> List[Part]:
         make.part("odd names of hosts and folders", hostile),
         make.part("runs that do not end", ended),
         make.part("a sweep of a program in C", sources, tools=COMPILER),
+        make.part("files that nobody gave a sweep", sought, tools=COMPILER),
         make.part("runs that cannot be made", missing),
         make.part("programs that are not compiled", uncompiled, tools=COMPILER),
     ]
@@ -156,6 +178,35 @@ def plain(check: Check) -> None:
     check.expect("the same table from what is kept", done.stdout == (check.folder / "plain.csv").read_text(), done.stdout)
     done = check.tool("bspsweep", "--engine", "plain", "--folder", "plain", "--nodes", "2,3,4", *PROGRAMS)
     check.expect("two nodes more", "4 of 6 runs were cached" in done.stderr and "2 of 2 runs done" in done.stderr, done.stderr)
+
+
+def sought(check: Check) -> None:
+    """A result depends on the files that a run was given by itself, or because an argument names them, and on none of the environment's options.
+    What programs write goes nowhere."""
+    (check.folder / "seeks.c").write_text(SEEKING)
+    words = ["--engine", "plain", "--folder", "sought", "-o", "t.csv", "seeks.c"]
+
+    def work(*more: str, **environment: str) -> int:
+        done = check.tool("bspsweep", *words, *more, environment=environment)
+        check.expect(f"a sweep of a program that seeks {more}", done.returncode == 0, done.stderr)
+        return int(next(csv.DictReader(io.StringIO((check.folder / "t.csv").read_text())))["w"])
+
+    least = 0
+    for name, more in (("named.txt", ("--args", "named.txt")), ("size.txt", ())):
+        (check.folder / name).write_text("100\n")
+        first = work(*more)
+        kept = work(*more)
+        (check.folder / name).write_text("10000\n")
+        changed = work(*more)
+        digests = json.loads((check.folder / "t.csv.json").read_text())["files"]
+        (check.folder / name).unlink()
+        least = work(*more)
+        right = first == kept and changed > first + 9900 and least < first and name in digests
+        check.expect(f"what a run costs that reads {name}, which is changed and removed", right, (first, kept, changed, least, digests))
+    (check.folder / "size.txt").write_text("1000\n")
+    found = work(BSPRUN_FLAGS="--no-files"), work()
+    check.expect("options of bsprun in the environment", found[0] == found[1] > least + 1000, (found, least))
+    check.expect("nothing is written beside the program", not (check.folder / "written.txt").exists(), "written.txt is there")
 
 
 def outcomes(text: str) -> List[str]:

@@ -14,7 +14,7 @@ from typing import TYPE_CHECKING
 from .. import children, files, streams
 from ..limits import MOST_WORKERS, WORKERS
 from ..machines import Take
-from ..options import MISTAKES, OUTPUT, Parser
+from ..options import FLAGS, MISTAKES, OUTPUT, Parser
 from ..outputs.report import Report
 from ..prepare.given_files import files_read, outputs_of
 from ..prepare.job import Job, prepared
@@ -30,8 +30,6 @@ if TYPE_CHECKING:
 
 # The status of a run that the clock has ended, as that of timeout(1), and the longest that --wall takes.
 WALL, MOST_SECONDS = 124, 10_000_000
-# What has options of bsprun in the environment.
-FLAGS = "BSPRUN_FLAGS"
 # That of a program which comes to something else where a library chooses otherwise.
 OTHERWISE = 10
 
@@ -121,6 +119,8 @@ def arguments(words: list[str]) -> argparse.Namespace:
         raise Refused("--recorded is for --page: give that too")
     asked.is_here = asked.out is None and not asked.no_files
     asked.out = os.curdir if asked.is_here else asked.out
+    # The files that the program looks for and nobody has given.
+    asked.sought = {}
     if asked.apart and not asked.summary and asked.profile is None:
         raise Refused("--apart printing needs --summary or --profile: give one of them")
     tell([f"bsprun: {it} after PROGRAM is an argument of the program" for it in reader.own(words, asked.args)])
@@ -167,7 +167,7 @@ def deliver(job: Job, done: Done) -> int:
     elif options.report is not None:
         from ..outputs.report_formats import spelled_for
 
-        files.write(options.report, spelled_for(options.report, found))
+        files.write(options.report, spelled_for(options.report, found, list(options.sought)))
     if found.outcome != "ended" and job.mark:
         from ..run.held_lines import held_lines
 

@@ -197,10 +197,15 @@ class Sweep:
                     wrong.append(f"{run}: another result{' on ' + host if host else ''}: {place.file('json', copy)}")
         return wrong
 
+    def sought(self) -> dict[str, str]:
+        """The files that programs looked for and nobody gave, with their digests."""
+        found = [it for it in (place.found() for place in self.places.values()) if it is not None]
+        return {name: content for it in found for name, content in it["sought"].items()}
+
     def write(self) -> table_record.Record:
         """Writes the table, and beside it the record of it, which is answered."""
         text = result_table.table(self.points, self.places, [name for name, _ in self.options.define])
-        record = table_record.made(self.options, self.words, self.points, self.store, text)
+        record = table_record.made(self.options, self.words, self.points, self.store, text, self.sought())
         if self.options.output is None:
             put(text)
             return record

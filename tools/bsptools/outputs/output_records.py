@@ -9,7 +9,7 @@ from __future__ import annotations
 import struct
 from typing import NamedTuple
 
-from .output_demux import MARK_BYTES
+from .output_demux import MARK_BYTES, marked
 
 # Begins the place for settings in an image: struct bsp_settings of bsplib/src/machine.h.
 PLACE = b"\0bsprun\3"
@@ -32,6 +32,11 @@ def settings_in(content: bytes, flags: int, fill: int, mark: bytes) -> bytes:
         return content
     settings = PLACE + struct.pack("<II", flags, fill) + mark.ljust(MARK_BYTES, b"\0")
     return content[:at] + settings + content[at + len(settings) :]
+
+
+def writes_files(content: bytes) -> bool:
+    """Whether the program of an image has a place for settings and one for its mark, without which it writes no files."""
+    return PLACE in content and bool(marked(content, b"")[1])
 
 
 def record_of(kind: int, content: bytes) -> Record | None:

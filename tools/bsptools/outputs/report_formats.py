@@ -5,11 +5,15 @@ from __future__ import annotations
 import csv
 import io
 import json
+from collections.abc import Sequence
 from typing import Any
 
 from ..files import whole
 from ..refusals import Refused, why_unfit
 from .report import MOST_COST, Report, Superstep, checked, part
+
+# In a report as JSON: the files that the program looked for and nobody gave.
+SOUGHT = "sought"
 
 
 def read(content: bytes) -> Report | None:
@@ -54,17 +58,22 @@ def as_csv(report: Report) -> bytes:
     return text.getvalue().encode()
 
 
-def as_json(report: Report) -> bytes:
-    """An object with the supersteps, the total and the outcome."""
+def as_json(report: Report, sought: Sequence[str] = ()) -> bytes:
+    """An object with the supersteps, the total and the outcome, and the files that the program looked for and nobody gave, if there are any."""
     supersteps = [{"superstep": it.number, **it.costs, "end": it.end} for it in report.supersteps]
-    content = {"supersteps": supersteps, "total": report.total, "outcome": report.outcome}
+    content = {"supersteps": supersteps, "total": report.total, "outcome": report.outcome, **({SOUGHT: list(sought)} if sought else {})}
     return json.dumps(content, indent=1).encode() + b"\n"
 
 
-def spelled_for(path: str, report: Report) -> bytes:
+def sought_in(content: bytes) -> list[str]:
+    """The files of a report that `as_json` made."""
+    return [str(it) for it in json.loads(content).get(SOUGHT, [])]
+
+
+def spelled_for(path: str, report: Report, sought: Sequence[str] = ()) -> bytes:
     """The report as the name of its file asks for: `.csv`, `.json`, or else the emulator's lines."""
     if path.endswith(".csv"):
         return as_csv(report)
     if path.endswith(".json"):
-        return as_json(report)
+        return as_json(report, sought)
     return report.text

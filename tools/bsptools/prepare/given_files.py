@@ -3,7 +3,9 @@
 from __future__ import annotations
 
 import argparse
+import contextlib
 import os
+import stat
 
 from .. import limits
 from ..files import content_of
@@ -11,6 +13,8 @@ from ..refusals import Refused, about
 
 # Of a folder that is given.
 MOST_FILES = 1000
+# What is no file of a person, and may differ from host to host.
+SYSTEM = ("/proc/", "/sys/", "/dev/")
 
 
 def given_files(options: argparse.Namespace) -> list[tuple[bytes, bytes]]:
@@ -55,6 +59,15 @@ def files_read(options: argparse.Namespace) -> list[str]:
     """All files that a run reads: the program, with more sources of it, its input, accepted pairs of lines, and what it is given."""
     names = [options.program, *filter(None, [options.input, options.accept]), *options.file, *filter(os.path.isfile, options.args)]
     return [*names, *(it for folder in options.files for it in files_of(folder))]
+
+
+def is_file(name: str) -> bool:
+    """Whether a name is that of a file that can be given though nobody asked for that."""
+    with contextlib.suppress(OSError, ValueError):
+        found = os.stat(name)
+        is_system = os.path.abspath(name).startswith(SYSTEM)
+        return stat.S_ISREG(found.st_mode) and found.st_size <= limits.MOST_INPUT and not is_system and os.access(name, os.R_OK)
+    return False
 
 
 def files_of(folder: str) -> list[str]:

@@ -6,19 +6,17 @@ import contextlib
 import os
 import pathlib
 import re
-import stat
 
-from ..limits import MOST_INPUT
 from ..outputs import output_records
 from ..outputs.library_notes import ABSENT, ASKED, note_of
 from ..outputs.output_records import Record
-from ..prepare.given_files import files_of, given_names
+from ..prepare.given_files import files_of, given_names, is_file
 from ..prepare.job import Job
 
-# What is no file of a person, and may differ from host to host.
-SYSTEM = ("/proc/", "/sys/", "/dev/")
 # Files of one form of name that are given together, and their bytes.
 MOST_TOGETHER, MOST_BYTES = 256, 1 << 22
+# Names that are noted of those for which a program looks.
+MOST_SOUGHT = 1000
 
 
 class Wanted(Exception):
@@ -41,6 +39,8 @@ class Finder:
         self._given = {identity(it) for it in given_names(options)} - {None}
         self._asked_for = [*options.file, *(it for folder in options.files for it in files_of(folder))]
         self._written: set[str] = set()
+        # Of all runs of the job: what one of them asked for is given to the next one, and asked for no more.
+        self._sought: dict[str, None] = options.sought
 
     def look(self, record: Record) -> None:
         """Looks at a record."""
@@ -49,11 +49,18 @@ class Finder:
         note = note_of(record) if record.kind == output_records.NOTE else None
         if note is None or note.what not in (ABSENT, ASKED) or self._is_off or note.text in self.names:
             return
+        self._seek(note.text)
         if is_file(note.text) and os.path.normpath(note.text) not in self._written and not self._is_given(note.text):
             self.names.append(note.text)
         elif note.what == ABSENT and note.text not in self.missing:
             self.missing.append(note.text)
 
+
+    def _seek(self, name: str) -> None:
+        """Takes note of a file on which a run rests, whether it is here or not: neither the user has given it, nor has the program written it."""
+        is_own = os.path.normpath(name) in self._written or self._is_given(name)
+        if not is_own and len(self._sought) < MOST_SOUGHT:
+            self._sought[name] = None
 
     def _is_given(self, name: str) -> bool:
         """Whether a file is given, or another one that the user has given is found by its name."""
@@ -72,15 +79,6 @@ def identity(name: str) -> tuple[int, int] | None:
         found = os.stat(name)
         return found.st_dev, found.st_ino
     return None
-
-
-def is_file(name: str) -> bool:
-    """Whether a name is that of a file that can be given."""
-    with contextlib.suppress(OSError, ValueError):
-        found = os.stat(name)
-        is_system = os.path.abspath(name).startswith(SYSTEM)
-        return stat.S_ISREG(found.st_mode) and found.st_size <= MOST_INPUT and not is_system and os.access(name, os.R_OK)
-    return False
 
 
 def with_others(name: str) -> list[str]:

@@ -3,16 +3,19 @@
 from __future__ import annotations
 
 import argparse
+import functools
 import json
 import os
 import pathlib
 import shlex
+from collections.abc import Iterable
 from typing import Any, Dict, NamedTuple
 
 from .. import limits, sealed_results
 from ..emulator import proved_program
-from ..files import content_of, own_content, put
+from ..files import content_of, named_content, own_content, put
 from ..limits import MOST_INPUT, MOST_PROGRAM
+from ..prepare.given_files import is_file
 from ..sealed_results import digest
 from . import result_folders
 from .sweep_points import Run
@@ -23,6 +26,22 @@ PRIVATE_FILE, MOST_TICKET = 0o600, 200
 TOOLS = pathlib.Path(__file__).resolve().parents[1]
 # What came of a run, as `job.record` makes it and JSON keeps it.
 Record = Dict[str, Any]
+
+
+def found_now(folder: str, names: Iterable[str]) -> dict[str, str]:
+    """The digests of files as a program finds them that is run in a folder, with none for those that are not there."""
+    paths = {name: os.path.join(folder, name) for name in names}
+    return {name: _digest_at(path, *_identity(path)) if is_file(path) else "" for name, path in paths.items()}
+
+
+def _identity(path: str) -> tuple[int, int, int]:
+    found = os.stat(path)
+    return found.st_ino, found.st_size, found.st_mtime_ns
+
+
+@functools.lru_cache(maxsize=None)
+def _digest_at(path: str, *_identity: int) -> str:
+    return digest(named_content(path, MOST_INPUT))
 
 
 class Place(NamedTuple):
@@ -44,9 +63,10 @@ class Place(NamedTuple):
         return os.path.lexists(self.file("failed", copy)) or self.found(copy) is not None
 
     def found(self, copy: str = MAIN) -> Record | None:
-        """What came of it; nothing if it was not made, or what is kept is not what was written."""
+        """What came of it; nothing if it was not made, what is kept is not what was written, or a file that its program looked for is another
+        one here now."""
         record: Record | None = sealed_results.found(self.file("json", copy), self.folder.name)
-        return record
+        return record if record is not None and found_now(os.curdir, record["sought"]) == record["sought"] else None
 
     @property
     def ticket(self) -> pathlib.Path:
@@ -61,6 +81,11 @@ class Place(NamedTuple):
         """Writes down what came of it."""
         ticket = own_content(self.ticket, MOST_TICKET).decode("latin-1")
         sealed_results.keep(self.file("json", copy), ticket, record)
+
+
+def files_named(words: str) -> list[str]:
+    """The files that arguments of main name."""
+    return list(dict.fromkeys(it for it in shlex.split(words) if is_file(it)))
 
 
 class Store:
@@ -89,10 +114,12 @@ class Store:
         is_large = options.large or limits.are_passed(run.nodes, options.memory)
         words += ["--format", run.program.kind, *(["--float"] if options.float else [])]
         words += [*(["--atomic"] if options.atomic else []), *([limits.OPTION] if is_large else [])]
-        programs, given = [self.emulator, image], [*filter(None, [run.given]), *options.file]
+        # bsprun gives the files that arguments name, too.
+        named = files_named(run.words)
+        programs, given = [self.emulator, image], [*filter(None, [run.given]), *options.file, *named]
         rests = [*programs, *given]
         digests = [self.digest_of(it, MOST_PROGRAM) for it in programs] + [self.digest_of(it, MOST_INPUT) for it in given]
-        key = digest(json.dumps([self.tools, words, digests, bool(run.given), options.file, shlex.split(run.words)]).encode())
+        key = digest(json.dumps([self.tools, words, digests, bool(run.given), options.file, named, shlex.split(run.words)]).encode())
         place = Place(result_folders.part(self.runs, key[:32]))
         words += [f"--input={run.given}"] * bool(run.given) + [f"--file={it}" for it in options.file]
         job = {

@@ -14,10 +14,12 @@ from typing import Any
 from .. import children, emulator
 from ..files import believed_content, content_of, put
 from ..limits import MOST_PROGRAM, MOST_TABLE
-from ..outputs.report_formats import read
+from ..options import FLAGS
+from ..outputs.output_records import writes_files
+from ..outputs.report_formats import read, sought_in
 from ..refusals import REFUSED, Refused
 from ..sealed_results import digest
-from .result_store import Place, Record
+from .result_store import Place, Record, found_now
 
 # At these prices the total is the sum of all w, all h and the number of supersteps.
 PRICES = ["--g", "1", "--l", "1"]
@@ -34,7 +36,9 @@ def make(folder: str, copy: str) -> int:
     with children.folder("bspsweep") as temp:
         report = temp / "report.json"
         words = [emulator.program("bsprun"), *PRICES, f"--argv0={NAME}", "--report", str(report), *job["words"], job["image"], *job["args"]]
-        environment = {**os.environ, "BSPEMU": job["emulator"]}
+        # Runs go on beside one another, and a result stands for a run: what their programs write would be a file of one of them.
+        words[1:1] = ["--out", str(temp / "files")] if writes_files(content_of(job["image"], MOST_PROGRAM)) else []
+        environment = {**os.environ, "BSPEMU": job["emulator"], FLAGS: ""}
         done = children.call(words, stdout=subprocess.PIPE, stderr=subprocess.PIPE, cwd=job["folder"], env=environment)
         content = report.read_bytes() if report.exists() else b""
     put(place.file("seconds", copy), f"{time.monotonic() - start:.3f}\n")
@@ -44,7 +48,7 @@ def make(folder: str, copy: str) -> int:
         put(place.file("failed", copy), other or said + "\n")
         return REFUSED
     place.file("failed", copy).unlink(missing_ok=True)
-    place.keep(record(content, done), copy)
+    place.keep({**record(content, done), "sought": found_now(job["folder"], sought_in(content))}, copy)
     return 0
 
 

@@ -13,7 +13,7 @@ from .. import VERSION, emulator, files, machines
 from ..limits import MOST_INPUT, MOST_PROGRAM, MOST_TABLE
 from ..refusals import Refused, counted, printable
 from ..sealed_results import digest
-from .result_store import Store
+from .result_store import Store, files_named
 from .sweep_points import Point
 from .sweep_programs import Program
 
@@ -88,8 +88,8 @@ def without_aside(words: list[str]) -> list[str]:
     return found
 
 
-def made(options: argparse.Namespace, words: list[str], points: list[Point], store: Store, table: str) -> Record:
-    """The record of a table that these words have asked for."""
+def made(options: argparse.Namespace, words: list[str], points: list[Point], store: Store, table: str, sought: dict[str, str]) -> Record:
+    """The record of a table that these words have asked for. Programs looked for these files, by digests, and nobody gave them."""
     programs = list(dict.fromkeys(it.run.program for it in points))
     found: Record = {MADE_BY: f"bspsweep {VERSION}", COMMAND: without_aside(words)}
     found["emulator"] = {"version": emulator.said(emulator.emulator(), "--version"), "sha256": store.digest_of(store.emulator, MOST_PROGRAM)}
@@ -101,8 +101,9 @@ def made(options: argparse.Namespace, words: list[str], points: list[Point], sto
     if headers:
         found["headers"] = {name: {"sha256": store.digest_of(name, MOST_PROGRAM)} for name in headers}
     found["images"] = {labelled(it): {"sha256": store.digest_of(str(it.image), MOST_PROGRAM)} for it in programs if not it.why}
-    given: list[str] = [*(options.input or []), *options.file]
+    given: list[str] = [*(options.input or []), *options.file, *(it for words in options.args or [] for it in files_named(words))]
     found["files"] = {name: {"sha256": store.digest_of(name, MOST_INPUT)} for name in given if name}
+    found["files"].update({name: {"sha256": it} for name, it in sorted(sought.items()) if it})
     found[MACHINES] = {name: {"sha256": digest(files.content_of(path, MOST_TABLE))} for name, path in machine_tables(options)}
     found[TABLE] = {"sha256": digest(table.encode(errors="surrogateescape"))}
     return found

@@ -2,6 +2,7 @@
 
 from __future__ import annotations
 
+import contextlib
 import glob
 import os
 import re
@@ -19,6 +20,8 @@ PATHS = re.compile(r"^(?:COMPILER|LIBRARY)_PATH=(.*)$", re.MULTILINE)
 SPECS = re.compile(r"^Reading specs from (/.*)$", re.MULTILINE)
 STARTED = re.compile(r"^COLLECT_GCC=(/.*)$", re.MULTILINE)
 SHARED = re.compile(r"=> (/\S+) \(0x")
+# How GCC is asked for those of its parts that are others after an upgrade, of which the last comes with the C library.
+PARTS = ("-print-prog-name=cc1", "-print-prog-name=as", "-print-libgcc-file-name", f"-print-file-name={LIBRARY}")
 # Programs of it that may have libraries of their own.
 PROGRAMS = ("cc1", "cc1plus", "collect2", "as", "ld")
 
@@ -49,6 +52,28 @@ def brought() -> str:
         if done.stdout.decode(errors="replace").strip() != LIBRARY:
             return ""
     return toolchain.folder()
+
+
+def identity(path: str) -> str:
+    """What tells this compiler from another one: the paths, sizes and times of its parts. `path` is the PATH by which it is found."""
+    gcc = shutil.which(GCC, path=path)
+    if gcc is None:
+        return ""
+    found, environment = [gcc], {**os.environ, "PATH": path}
+    for asked in PARTS:
+        done = subprocess.run(
+            [gcc, asked], stdin=subprocess.DEVNULL, stdout=subprocess.PIPE, stderr=subprocess.DEVNULL, check=False, env=environment,
+        )  # fmt: skip
+        found.append(os.fsdecode(done.stdout.strip()))
+    return "\n".join(map(_told, found))
+
+
+def _told(path: str) -> str:
+    """A file with its size and time; one that cannot be found has none."""
+    with contextlib.suppress(OSError):
+        stat = os.stat(path)
+        return f"{os.path.realpath(path)} {stat.st_size} {stat.st_mtime_ns}"
+    return path
 
 
 def files_of(said: str, path: str) -> Iterator[str]:

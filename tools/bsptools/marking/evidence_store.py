@@ -2,6 +2,7 @@
 
 from __future__ import annotations
 
+import os
 import pathlib
 import tempfile
 from typing import Optional
@@ -40,14 +41,15 @@ def folder_at(path: str) -> pathlib.Path:
 
 
 class Store:
-    """What is kept in a folder."""
+    """What is kept in a folder, of what this emulator ran and this compiler built."""
 
-    def __init__(self, folder: pathlib.Path, program: str) -> None:
+    def __init__(self, folder: pathlib.Path, program: str, compiler: str) -> None:
         self.folder = folder
         sources = sorted(it for it in TOOLS.rglob("*.py"))
         top = pathlib.Path(emulator.program("bspcc"))
         library = sorted(it for it in (top.resolve().parent / "bsplib").rglob("*") if it.is_file())
-        self.base = digest_of(files.content_of(program, 1 << 28), top.read_bytes(), *(it.read_bytes() for it in [*sources, *library]))
+        texts = [top.read_bytes(), *(it.read_bytes() for it in [*sources, *library])]
+        self.base = digest_of(files.content_of(program, 1 << 28), os.fsencode(compiler), *texts)
 
     def key(self, plan: Plan, text: bytes, name: str) -> str:
         """The name of what comes of a hand-in, by what a trial of it rests on."""

@@ -110,7 +110,6 @@ class Marking:
         self.program = emulator.proved_program()
         os.environ["XDG_CACHE_HOME"] = self.cache = cache_at(folder)
         self.kept = folder_at(kept)
-        self.store = Store(self.kept, self.program)
         if sheet.checker:
             self.expect_checker()
         self.inputs = Inputs(sheet, seed)
@@ -121,6 +120,7 @@ class Marking:
         self.path = ":".join([*([f"{brought}/bin"] if brought else []), os.environ.get("PATH", os.defpath)])
         # Nothing else is in a folder of packages.
         self.compiler = [brought] if brought else []
+        self.store = Store(self.kept, self.program, compiler_files.identity(self.path))
         self.known = self.of_others = 0
         self.wanted: List[Wanted] = []
         self.plan = self.planned()

@@ -30,9 +30,11 @@ def write_to(path: str, runs: Sequence[Run], plans: Sequence[RunPlan], wanted: S
     write(path, "{\n" + ",\n".join(dict.fromkeys(lines)) + "\n}\n")
 
 
-def wanted_of(entry: Dict[str, Any]) -> Wanted:
-    """What is wanted of a run, as the file has it. It may have come with a sheet of somebody else."""
+def wanted_of(entry: Dict[str, Any], plan: RunPlan) -> Wanted:
+    """What is wanted of a run, as the file has it. It may have come with a sheet of somebody else. The sheet may have other prices since then,
+    at which the cost is another one."""
     costs = {name: whole(it) for name, it in entry["costs"].items()}
+    costs["cost"] = costs["w"] + plan.g * costs["h"] + plan.l * costs["supersteps"]
     supersteps = [[whole(w), whole(h), whole(m)] for w, h, m in entry["supersteps"]]
     return Wanted(entry["output"].encode("latin-1"), costs, supersteps)
 
@@ -45,7 +47,7 @@ def read(sheet: Sheet, runs: Sequence[Run], plans: Sequence[RunPlan]) -> List[Wa
         found = [known.get(name_of(it)) for it in plans]
         lacks = [run for run, it in zip(runs, found) if it is None]
         if not lacks:
-            return [wanted_of(it) for it in found]
+            return [wanted_of(it, plan) for it, plan in zip(found, plans)]
     except (ValueError, TypeError, KeyError, AttributeError, RecursionError) as error:
         raise Refused(f"{path} was not written by bspcheck --freeze: {why_unfit(error)}") from error
     raise Refused(

@@ -6,7 +6,7 @@ import os
 import pathlib
 import re
 import struct
-from collections.abc import Callable
+from collections.abc import Callable, Iterable, Iterator
 from typing import NamedTuple
 
 from ..limits import MOST_MEMORY, PAGE
@@ -16,13 +16,16 @@ from .output_records import Record
 
 ASKED, REFUSED, ABSENT, UNWRITTEN, LOST, PENDING, EMPTY, CLOCK, STATUS, READ, LONG = "a", "m", "r", "w", "l", "p", "i", "c", "s", "d", "o"
 MOST_TOLD = 10
+# How many bytes of notes are kept, each with its numbers.
+MOST_KEPT = 1 << 22
 # What does not fit into a `long`: path, line, and what it is of which type.
 SHORT = r"(?s)(.*):(\d+): (.*'(.*)', which has 32 bits here)"
 _HEAD = struct.Struct("<5I")
 
 
 class Note(NamedTuple):
-    """A note: what it is, which rank made it in which superstep, the place behind the call of which it tells, numbers and a text."""
+    """A note: what it is, which rank made it in which superstep, the place behind the call of which it tells, numbers and a text; and which
+    of the notes of its rank in the superstep it is, from 0 on."""
 
     what: str
     rank: int
@@ -31,6 +34,7 @@ class Note(NamedTuple):
     one: int
     other: int
     text: str
+    number: int = 0
 
     @property
     def kind(self) -> tuple[str, int, str]:
@@ -49,6 +53,34 @@ def note_of(record: Record) -> Note | None:
     return Note(chr(what & 0x7F), record.rank, superstep, place, one, other, os.fsdecode(content[_HEAD.size :]))
 
 
+class KeptNotes:
+    """The notes of a run that are told: of those of a rank that have their kind in common, the first. A run without an end may make notes
+    without an end."""
+
+    def __init__(self) -> None:
+        self._found: dict[tuple[int, tuple[str, int, str]], Note] = {}
+        # By ranks, the superstep of the last note, and how many notes the rank has made in it.
+        self._counts: dict[int, tuple[int, int]] = {}
+        self._room = MOST_KEPT
+
+    def __iter__(self) -> Iterator[Note]:
+        return iter(self._found.values())
+
+    def __len__(self) -> int:
+        return len(self._found)
+
+    def take(self, note: Note) -> None:
+        """Keeps a note, if it is to be told."""
+        superstep, count = self._counts.get(note.rank, (note.superstep, 0))
+        number = count if superstep == note.superstep else 0
+        self._counts[note.rank] = note.superstep, number + 1
+        size = len(note.text) + _HEAD.size
+        if note.what == ASKED or (note.rank, note.kind) in self._found or size > self._room:
+            return
+        self._found[note.rank, note.kind] = note._replace(number=number)
+        self._room -= size
+
+
 class NoteTeller:
     """Makes lines of notes. `written` has the ranks that wrote a file, by its name; `given` is the file of --input, if there is one;
     `seconds` says what a second is; `where` tells function and line at which a note was made, or nothing, for those that do not tell it
@@ -60,7 +92,7 @@ class NoteTeller:
         self.code, self.memory, self.written = code, memory, written
         self.given, self.seconds, self.where = given, seconds, where
 
-    def lines(self, notes: list[Note]) -> list[str]:
+    def lines(self, notes: Iterable[Note]) -> list[str]:
         """A line for each kind of note, with how many more ranks made it."""
         kinds: dict[tuple[str, int, str], list[Note]] = {}
         for it in notes:

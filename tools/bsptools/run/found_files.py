@@ -10,7 +10,7 @@ import stat
 
 from ..limits import MOST_INPUT
 from ..outputs import output_records
-from ..outputs.library_notes import ABSENT, ASKED, note_of
+from ..outputs.library_notes import ABSENT, ASKED, Note
 from ..outputs.output_records import Record
 from ..prepare.given_files import files_of, given_names
 from ..prepare.job import Job
@@ -19,6 +19,8 @@ from ..prepare.job import Job
 SYSTEM = ("/proc/", "/sys/", "/dev/")
 # Files of one form of name that are given together, and their bytes.
 MOST_TOGETHER, MOST_BYTES = 256, 1 << 22
+# How many files are told of, each once, while the run goes on.
+MOST_MISSING = 100
 
 
 class Wanted(Exception):
@@ -31,29 +33,29 @@ class Wanted(Exception):
 
 class Finder:
     """Looks at the records of a run for files that the program asks for: for those that are here, in `names`, and for the others, in
-    `missing`."""
+    `missing`, each once."""
 
     def __init__(self, job: Job) -> None:
         self.names: list[str] = []
         self.missing: list[str] = []
+        self._told: set[str] = set()
         options = job.options
         self._is_off = options.no_files or not job.can_be_given
         self._given = {identity(it) for it in given_names(options)} - {None}
         self._asked_for = [*options.file, *(it for folder in options.files for it in files_of(folder))]
         self._written: set[str] = set()
 
-    def look(self, record: Record) -> None:
-        """Looks at a record."""
+    def look(self, record: Record, note: Note | None) -> None:
+        """Looks at a record, which may be a note."""
         if record.kind == output_records.NAME:
             self._written.add(os.path.normpath(os.fsdecode(record.content[4:])))
-        note = note_of(record) if record.kind == output_records.NOTE else None
         if note is None or note.what not in (ABSENT, ASKED) or self._is_off or note.text in self.names:
             return
         if is_file(note.text) and os.path.normpath(note.text) not in self._written and not self._is_given(note.text):
             self.names.append(note.text)
-        elif note.what == ABSENT and note.text not in self.missing:
+        elif note.what == ABSENT and note.text not in self._told and len(self._told) < MOST_MISSING:
+            self._told.add(note.text)
             self.missing.append(note.text)
-
 
     def _is_given(self, name: str) -> bool:
         """Whether a file is given, or another one that the user has given is found by its name."""

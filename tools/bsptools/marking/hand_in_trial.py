@@ -200,8 +200,8 @@ class Trial:
         words = self.compiler(self.plan.runs[0].defines, self.name, *hidden_warnings.OPTIONS)
         ran = bounded_run.run(words, COMPILER_SECONDS, hidden_warnings.MOST_TEXT, compiler_environment(self.folder))
         self.found.hides = hidden_warnings.fault(ran, self.name)
-        lacks = filter(self.is_lack, ran.said.decode(errors="replace").splitlines()) if ran.status else iter(())
-        self.found.lack = SLOW if ran.how == bounded_run.LATE else next(lacks, "")
+        said = cut(ran.said.decode(errors="replace").splitlines()) if ran.status else []
+        self.found.lack = SLOW if ran.how == bounded_run.LATE else next(filter(self.is_lack, said), "")
 
     def is_lack(self, line: str) -> bool:
         """Whether the compiler says that the host has given it too little."""

@@ -18,9 +18,22 @@ ASKED, REFUSED, ABSENT, UNWRITTEN, LOST, PENDING, EMPTY, CLOCK, STATUS, READ, LO
 MOST_TOLD = 10
 # How many bytes of notes are kept, each with its numbers.
 MOST_KEPT = 1 << 22
-# What does not fit into a `long`: path, line, and what it is of which type.
-SHORT = r"(?s)(.*):(\d+): (.*'(.*)', which has 32 bits here)"
+# A line of a source in a note of what does not fit into a `long`, and the end of such a note.
+LINE, BITS = re.compile(r":(\d+): "), "', which has 32 bits here"
 _HEAD = struct.Struct("<5I")
+
+
+class TooShort(NamedTuple):
+    """What does not fit into a `long`: its place, path and line, what it is, and of which type."""
+
+    path: str
+    line: str
+    what: str
+    kind: str
+
+    def text(self, kind: str) -> str:
+        """What the note says, with another name of the type."""
+        return f"{self.path}:{self.line}: {self.what}'{kind}{BITS}"
 
 
 class Note(NamedTuple):
@@ -39,9 +52,21 @@ class Note(NamedTuple):
     @property
     def kind(self) -> tuple[str, int, str]:
         """What notes have in common that are told once."""
-        found = re.fullmatch(SHORT, self.text) if self.what == LONG else None
-        text = "" if self.what == READ else f"{found[1]}:{found[2]}" if found else self.text
+        found = self.too_short
+        text = "" if self.what == READ else f"{found.path}:{found.line}" if found else self.text
         return self.what, self.place if self.what in (REFUSED, PENDING) else 0, text
+
+    @property
+    def too_short(self) -> TooShort | None:
+        """What does not fit into a `long`, if the note says that. The last line and the last type count, since a path may look like them. The
+        program chooses the text, so that this takes no longer than the text is long."""
+        if self.what != LONG or not self.text.endswith(BITS):
+            return None
+        front, quote, kind = self.text[: -len(BITS)].rpartition("'")
+        last: re.Match[str] | None = None
+        for last in LINE.finditer(front):
+            pass
+        return TooShort(front[: last.start()], last[1], front[last.end() :], kind) if quote and last else None
 
 
 def note_of(record: Record) -> Note | None:
@@ -169,6 +194,6 @@ class NoteTeller:
 
 def too_short(note: Note) -> str:
     """What does not fit into a `long`, and what to write."""
-    found = re.fullmatch(SHORT, note.text)
-    where = f"{pathlib.PurePath(found[1]).name}:{found[2]}: {found[3]}" if found else note.text
-    return f"{where}: write " + ("uint64_t or unsigned long long" if found and "unsigned" in found[4] else "int64_t or long long")
+    found = note.too_short
+    where = found._replace(path=pathlib.PurePath(found.path).name).text(found.kind) if found else note.text
+    return f"{where}: write " + ("uint64_t or unsigned long long" if found and "unsigned" in found.kind else "int64_t or long long")

@@ -18,7 +18,7 @@ sys.path.insert(0, str(pathlib.Path(__file__).resolve().parents[1]))
 from checks import COMPILER, PYELFTOOLS, REPO, SECONDS, Part, Tally, Tool  # noqa: E402
 from marked import ALL_RIGHT, NOT_ALL_RIGHT, NOT_MARKED, Bench  # noqa: E402
 
-from bsptools.marking import bounded_run, confinement, sheet_marking  # noqa: E402
+from bsptools.marking import bounded_run, confinement, hidden_warnings, sheet_marking  # noqa: E402
 
 LANDLOCK = Tool("Landlock", "linux-image-amd64", lambda _: confinement.version() > 0)
 SECRET = "kept from hand-ins"
@@ -235,6 +235,68 @@ def hidden(tally: Tally, folder: pathlib.Path) -> None:
         tally.expect(f"calls of {name}", found.get(name) == wanted, (found.get(name), done.stderr))
 
 
+# A sheet with points for warnings, what has one, and what hides it in a line, with what is told of that.
+WARNS_SHEET = """nodes = [1]
+expected = "it.txt"
+[points]
+warnings = 2
+"""
+UNUSED = PROGRAM % ("", 'int unused; puts("it");')
+IGNORED = 'GCC diagnostic ignored \\"-Wunused-variable\\"'
+IGNORES = '#pragma GCC diagnostic ignored "-Wunused-variable"\n'
+HIDDEN = {
+    "pragma.c": (IGNORES, 1), "digraph.c": (f"\n%:{IGNORES[1:].replace('nostic', chr(92) + chr(10) + 'nostic')}", 2),
+    "operator.c": (f'_Pragma("{IGNORED}")\n', 1), "pasted.c": (f'#define TWO(a, b) a##b\nTWO(_Pra, gma)("{IGNORED}")\n', 2),
+    "place.c": ('\n# 1 "x.c" 3\n', 2), "spelled.c": ('/* */ %: /* */ 1 "x.c" 3 4\n', 1), "begins.c": ('# 1 "/usr/include/x.h" 1 3\n', 1),
+    "renamed.c": (f'#line 8 "/usr/include/stdio.h"\n{IGNORES}', 8),
+    "raw.c": (f'const char *raw = R"x(\n# 1 "/usr/include/x.h" 1 3\n)x";\n{IGNORES}', 4),
+    "includes_itself.c": ("#if __INCLUDE_LEVEL__ == 0\n#include __FILE__\n#define UNUSED\n#else\n#pragma GCC system_header\n#endif\n#ifndef UNUSED\n", 6),
+}  # fmt: skip
+FALLS = "int falls(int n)\n{\n    switch (n) {\n    case 1: n = 2;\n    case 2: return n;\n    }\n    return 0;\n}"
+TOLD_HIDDEN = {
+    **{name: (text + UNUSED + "#endif\n" * name.startswith("includes"), f"it hides warnings, at line {line}") for name, (text, line) in HIDDEN.items()},
+    "level.c": ('#pragma GCC diagnostic warning "-Wimplicit-fallthrough=0"\n' + PROGRAM % (FALLS, 'puts("it");'), "it hides warnings, at line 1"),
+    "options.c": (f'#pragma GCC optimize ("O0")\n#ifndef __OPTIMIZE__\n{IGNORES}#endif\n{UNUSED}', "it changes the compiler's options, which can hide warnings, at line 1"),
+    "notes.c": ('#pragma message "x"\n' * 40 + UNUSED, "1 warning, the first: notes.c, line 47: unused variable 'unused'"),
+    "notes_without_end.c": ('#pragma message "x"\n' * 6000 + UNUSED, "it could not be checked whether it hides warnings: the compiler prints too much"),
+    "name.c": (f'#line 1 "{"a" * 5000}"\n{UNUSED}', "unused variable 'unused'"),
+    "pedantic.c": ("#define F(a...)\n" * 3000 + "# 1 \"x.c\" 3\n" + UNUSED, "it could not be checked whether it hides warnings: the compiler prints too much"),
+}  # fmt: skip
+SHOWN = {
+    "plain.c": PROGRAM % ("", 'puts("it");'),
+    "pushes.c": '#pragma GCC diagnostic push\n#pragma GCC diagnostic error "-Wformat"\n#pragma GCC diagnostic pop\n' + PROGRAM % ("", 'puts("it");'),
+    "library.cpp": "#include <algorithm>\n#include <memory>\n#include <string>\n" + PROGRAM.replace("#include <bsp.h>", 'extern "C" {\n#include <bsp.h>\n}')
+    % ("", f"int n = 1'000; const char *raw = R\"x(\n{IGNORES})x\"; puts(n == 1000 && raw ? \"it\" : \"no\");"),
+    "line.c": '#line 9 "other.y"\n' + PROGRAM % ("", 'puts("it");'),
+}  # fmt: skip
+
+
+def hides(tally: Tally, folder: pathlib.Path) -> None:
+    """Who hides warnings does not get the points for having none, however that is written; pragmas of the library and of the sheet's own files
+    do no harm. Without such points nothing of that counts."""
+    bench = Bench(folder / "hides")
+    bench.write("it.txt", "it\n")
+    bench.write("sheets.h", f"{IGNORES}static int sheets;\n")
+    bench.write("sheet.toml", f'files = ["sheets.h"]\n{WARNS_SHEET}')
+    bench.write("none.toml", WARNS_SHEET.partition("[points]")[0])
+    shown = {**SHOWN, "sheets.c": '#include "sheets.h"\n' + PROGRAM % ("", 'puts("it");')}
+    for name, text in [*((name, text) for name, (text, _) in TOLD_HIDDEN.items()), *shown.items()]:
+        bench.write(name, text)
+    done = bench.run("sheet.toml", *TOLD_HIDDEN, *shown, words=["-o", "m.csv"])
+    rows = {it["hand-in"]: it for it in bench.rows("m.csv")} if done.returncode != NOT_MARKED else {}
+    for name, (_, wanted) in TOLD_HIDDEN.items():
+        row = rows.get(name, {"verdict": done.stderr, "fault": "", "points": ""})
+        right = (row["verdict"], row["points"]) == ("warnings", "10") and wanted in row["fault"] and len(row["fault"]) < 300
+        tally.expect(f"{name} hides warnings", right, (wanted, row))
+    for name in shown:
+        row = rows.get(name, {"verdict": done.stderr, "points": ""})
+        tally.expect(f"{name} hides none", (row["verdict"], row["points"]) == ("right", "12"), row)
+    done = bench.run("none.toml", "pragma.c", "place.c", "options.c")
+    tally.expect("no points for warnings", done.returncode == ALL_RIGHT, done)
+    long = hidden_warnings.fault(bounded_run.Ran(bounded_run.LONG, -9, b"", b""), "a.c")
+    tally.expect("a text that is too long to be looked at", long.endswith("its macros make more than 16777216 bytes"), long)
+
+
 # So many letters a program may have, or print, in which each piece without an end would be looked for from each letter on.
 MANY = 300_000
 ENDLESS = {
@@ -434,6 +496,7 @@ def parts(tally: Tally, folder: pathlib.Path) -> List[Part]:
         Part("searches without an end", lambda: unsearched(tally, folder), wanted),
         Part("names of hand-ins", lambda: names(tally, folder), wanted),
         Part("calls that are hidden", lambda: hidden(tally, folder), wanted),
+        Part("warnings that are hidden", lambda: hides(tally, folder), wanted),
         Part("texts without an end", lambda: endless(tally, folder), wanted),
         Part("commands that make a run again", lambda: repeated(tally, folder), wanted),
         Part("reports that are made up", lambda: forges(tally, folder), wanted),

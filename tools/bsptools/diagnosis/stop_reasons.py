@@ -24,8 +24,8 @@ LONG = "the run is too long to look up what is registered; --warn does"
 # How many stopped nodes are looked at, and how many of them are told of in full.
 MOST_LOOKS = 8
 MOST_TOLD = 3
-# What a line has that the compiler does not see, and the functions of the library in which a program ends whose main has returned.
-COMMENT = r"//.*|/\*.*?\*/"
+# What a line has that the compiler does not see: a comment without an end, too, which goes on in the next line. And the functions of the library in which a program ends whose main has returned.
+COMMENT = r"//.*|/\*.*?(?:\*/|$)"
 BEHIND_MAIN = {"_exit", "exit", "bsp_start", "_start", "end_of_main", "bsp_stop", "bsp_stop_with", "end_line", "abort_node", ""}
 # The functions of the library that make calls.
 LIBRARYS = {name for names in FUNCTIONS.values() for name in names}
@@ -175,7 +175,7 @@ class Why:
         if before is not None and before.is_relative and before.pointer == 0:
             return "NULL is used as a pointer here: the compiler saw it, and put a trap"
         lines = source_lines(self.code, node.pc)
-        if lines and re.search(r"[/%]", re.sub(COMMENT, "", source_text(lines[0][1]))):
+        if lines and divides(source_text(lines[0][1])):
             return "an integer is divided by 0 here: the compiler saw it, and put a trap"
         return "the compiler saw that the program goes wrong here, and put a trap"
 
@@ -409,6 +409,11 @@ def source_text(line: str) -> str:
     with contextlib.suppress(Refused, ValueError, IndexError):
         return named_content(path, MOST_SOURCE).decode(errors="replace").splitlines()[int(number) - 1]
     return ""
+
+
+def divides(line: str) -> bool:
+    """Whether a line of a source divides."""
+    return re.search(r"[/%]", re.sub(COMMENT, "", line)) is not None
 
 
 def ordinal(number: int) -> str:

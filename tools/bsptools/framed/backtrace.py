@@ -158,7 +158,7 @@ def users_frames(code: Code, chain: list[int]) -> list[Frame]:
 
 def called_as(name: str) -> str:
     """The name under which a program calls a function, also one of namespace std."""
-    of_std = re.match(r"_ZSt(\d+)", name)
+    of_std = re.match(r"_ZSt(\d{1,9})", name)
     if of_std:
         return f"std::{name[of_std.end() :][: int(of_std[1])]}"
     return name[len(WRAP) :] if name.startswith(WRAP) else name

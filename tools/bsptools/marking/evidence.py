@@ -9,6 +9,8 @@ from typing import Any, Dict, List, Optional
 # How a run ended beside the emulator's own outcomes: by the clock, by too much output, and by what the host did not give.
 LATE, LONG, BROKEN = "too long", "too much output", "broken off"
 WELL = "ended"
+# What a line of the compiler has that is a warning.
+WARNS = ": warning: "
 # Supersteps that are kept for pictures.
 MOST_SHOWN = 120
 # Letters of a line that are kept. A hand-in chooses names in it, and what is looked for in a name of 100,000 letters takes minutes.
@@ -42,8 +44,8 @@ class Ended:
 
 @dataclass
 class Evidence:
-    """All of a hand-in: why it is no program at all, or what the compiler said and whether it made one; which calls it names, of those that a
-    sheet speaks of; its runs, in the order of the sheet; and the verdict of --portable, where the sheet asks for that.
+    """All of a hand-in: why it is no program at all, or what the compiler said and whether it made one; how it hides warnings, where the sheet
+    has points for these; which calls it names, of those that a sheet speaks of; its runs, in the order of the sheet; and the verdict of --portable, where the sheet asks for that.
 
     `lack` says what the host may not have given, as room on a disk that others have filled: then it is tried again by itself. `untried` says
     why it cannot be judged, as where that did not help.
@@ -54,6 +56,7 @@ class Evidence:
     untried: str = ""
     is_built: bool = False
     said: List[str] = field(default_factory=list)
+    hides: str = ""
     calls: Dict[str, int] = field(default_factory=dict)
     runs: List[Ended] = field(default_factory=list)
     portable: Optional[List[str]] = None

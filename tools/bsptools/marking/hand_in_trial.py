@@ -10,9 +10,9 @@ import os
 import pathlib
 import re
 import signal
-from collections.abc import Collection, Iterator, Mapping
+from collections.abc import Collection, Iterator, Mapping, Sequence
 from dataclasses import dataclass, field
-from typing import Dict, List, Optional, Tuple
+from typing import Dict, List, Optional, Pattern, Tuple
 
 from .. import emulator, limits, memory_bound
 from ..counts import step_counts
@@ -30,9 +30,9 @@ from ..portable.portability_findings import told_contested
 from ..prepare.job import Job, prepared
 from ..program import elf
 from ..refusals import Refused, counted
-from . import bounded_run
+from . import bounded_run, hidden_warnings
 from .bounded_run import Ran
-from .evidence import BROKEN, LATE, LONG, MOST_SHOWN, Ended, Evidence, cut
+from .evidence import BROKEN, LATE, LONG, MOST_SHOWN, WARNS, Ended, Evidence, cut
 from .sheet import Bound
 
 MOST_TEXT, MOST_LINES = 1 << 20, 30
@@ -46,6 +46,9 @@ MOST_REPORT = 1 << 26
 PATIENCE, TIMES_AS_LONG, TIMES_A_RUN = 20, 3, 2
 # What is likely a mistake by the text alone. `bspcc --strict` also takes -Og and tests as the program runs, with which w would be another.
 STRICT = ("-Wall", "-Wextra", "-Wno-unused-parameter", "-Wno-sign-compare")
+WARNING = re.compile(WARNS)
+# Letters in front of a warning that are kept.
+MOST_PLACE = 100
 ERRORS = re.compile(r"\b(?:fatal )?[eE]rror: |undefined reference")
 # What the compiler says where the host has given it too little: the disk is full, a process of it was killed, or none could be started. A
 # hand-in that has GCC say so itself is tried once more, and no more. The errors that tell the same; and that it was too slow.
@@ -98,6 +101,7 @@ class Plan:
     strict: bool = True
     races: bool = True
     portable: bool = False
+    warnings: bool = False
 
     @property
     def most_memory(self) -> int:
@@ -132,6 +136,9 @@ class Trial:
         (self.folder / self.name).write_bytes(self.text)
         for name, content in self.plan.files:
             self.put(name, content)
+        if self.plan.warnings:
+            # Before there is a program, since the text can ask for its file.
+            self.find_hidden_warnings()
         images = {defines: self.built(defines, at) for at, defines in enumerate(dict.fromkeys(it.defines for it in self.plan.runs))}
         if not self.found.is_built:
             return self.found
@@ -169,7 +176,8 @@ class Trial:
         """Has the compiler write a file, and answers whether it did."""
         ran = bounded_run.run(words, COMPILER_SECONDS, MOST_COMPILED, compiler_environment(self.folder))
         is_built = ran.how == bounded_run.ENDED and ran.status == 0 and target.is_file()
-        said = cut(it for it in ran.said.decode(errors="replace").replace(f"{self.folder}/", "").splitlines() if it.strip())
+        lines = ran.said.decode(errors="replace").replace(f"{self.folder}/", "").splitlines()
+        said = cut(with_short_place(it) for it in lines if it.strip())
         if not is_built:
             self.found.lack = next(filter(self.is_lack, said), SLOW if ran.how == bounded_run.LATE else "")
         if ran.how != bounded_run.ENDED:
@@ -178,12 +186,22 @@ class Trial:
             said.append(f"the compiler ended with status {ran.status}, perhaps because memory ran out")
         if not is_built:
             # Warnings and the files that were included come first, and may be many.
-            first = next((at for at, it in enumerate(said) if ERRORS.search(it)), 0)
-            self.found.said = said[first if first >= MOST_LINES else 0 :][:MOST_LINES]
+            self.found.said = some_with(ERRORS, said)
         elif number == 0:
-            self.found.said = [*self.found.said, *said][:MOST_LINES]
+            # The same of notes, which a text can have the compiler make.
+            self.found.said = some_with(WARNING, [*self.found.said, *said])
+            if self.plan.warnings and len(ran.said) >= bounded_run.MOST_SAID:
+                self.found.hides = self.found.hides or f"{hidden_warnings.UNKNOWN}: the compiler prints too much"
         self.found.is_built = is_built and (number == 0 or self.found.is_built)
         return is_built
+
+    def find_hidden_warnings(self) -> None:
+        """What hides warnings if it is compiled with the constants of the first run, as those are that count."""
+        words = self.compiler(self.plan.runs[0].defines, self.name, *hidden_warnings.OPTIONS)
+        ran = bounded_run.run(words, COMPILER_SECONDS, hidden_warnings.MOST_TEXT, compiler_environment(self.folder))
+        self.found.hides = hidden_warnings.fault(ran, self.name)
+        said = cut(ran.said.decode(errors="replace").splitlines()) if ran.status else []
+        self.found.lack = SLOW if ran.how == bounded_run.LATE else next(filter(self.is_lack, said), "")
 
     def is_lack(self, line: str) -> bool:
         """Whether the compiler says that the host has given it too little."""
@@ -365,6 +383,18 @@ def name_beside(name: str, taken: Collection[str]) -> str:
     end = pathlib.PurePath(name).suffix
     others = (f"hand_in{number or ''}{end}" for number in itertools.count())
     return next(it for it in itertools.chain([name], others) if SAFE.fullmatch(it) and it not in taken)
+
+
+def with_short_place(line: str) -> str:
+    """A line of the compiler, with the end of what stands in front of a warning: a text can give itself a name of any length."""
+    at = line.find(WARNS)
+    return f"...{line[at - MOST_PLACE :]}" if at > MOST_PLACE else line
+
+
+def some_with(what: Pattern[str], said: Sequence[str]) -> List[str]:
+    """So many lines of the compiler as are kept, from the first one that has something, if that would not be among them."""
+    first = next((at for at, it in enumerate(said) if what.search(it)), 0)
+    return list(said[first if first >= MOST_LINES else 0 :][:MOST_LINES])
 
 
 def compiler_environment(folder: pathlib.Path) -> Mapping[str, str]:

@@ -9,6 +9,7 @@ from typing import List, Sequence, Set
 
 from ..refusals import counted, printable
 from . import formulas
+from .evidence import WARNS
 from .marks import RIGHT, Marks, Wanted
 from .sheet import QUANTITIES, Sheet, points_told, settings_of
 
@@ -51,7 +52,7 @@ def one(sheet: Sheet, marks: Marks) -> List[str]:
         if not it.is_kept and it.verdict not in told:
             rows += [f"{'':{room + 12}}{shown(line, 1000)}" for line in it.more[:MOST_LINES]]
             told.add(it.verdict)
-    warnings = [line for line in marks.evidence.said if ": warning: " in line]
+    warnings = [line for line in marks.evidence.said if WARNS in line]
     if marks.evidence.is_built and warnings:
         rows += ["  the compiler warns:", *(f"    {shown(line, 1000)}" for line in warnings)]
     return rows

@@ -10,7 +10,7 @@ from typing import Dict, List, NamedTuple, Optional
 from ..refusals import counted
 from . import formulas
 from .differences import Row, first_difference, is_same, rows
-from .evidence import BROKEN, LATE, LONG, Ended, Evidence
+from .evidence import BROKEN, LATE, LONG, WARNS, Ended, Evidence
 from .sheet import Bound, Run, Sheet, settings_of
 
 # A place in the program's own `exit`.
@@ -246,12 +246,14 @@ class Marker:
                 check.points = sheet.portable_points
             found.append(check)
         if sheet.warning_points:
-            warnings = [it for it in self.evidence.said if ": warning: " in it]
+            warnings = [it for it in self.evidence.said if WARNS in it]
             check = Check("no warnings", 0, sheet.warning_points, WARNED)
             if not are_right:
                 check.fault, check.verdict = "not checked: it is not right everywhere", ""
             elif warnings:
                 check.fault, check.more = f"{counted(len(warnings), 'warning')}, the first: {plain(warnings[0])}", warnings
+            elif self.evidence.hides:
+                check.fault = self.evidence.hides
             else:
                 check.points = sheet.warning_points
             found.append(check)

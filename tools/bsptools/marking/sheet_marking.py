@@ -141,6 +141,7 @@ class Marking:
         files = tuple((last_name(it), named_content(sheet.file(it), MOST_INPUT)) for it in sheet.files)
         return Plan(
             runs, files, (*sheet.forbid, *sheet.require), sheet.memory, sheet.seconds, sheet.strict, sheet.races, sheet.portable,
+            sheet.warning_points > 0,
         )  # fmt: skip
 
     def run_plan(self, run: Run, wanted: Optional[Wanted]) -> RunPlan:
@@ -163,7 +164,7 @@ class Marking:
             solution = hand_in(sheet.file(sheet.solution))
             if solution.why:
                 raise Refused(f"{solution.name}: {solution.why}")
-            plan = replace(self.plan, portable=False, calls=(), races=False)
+            plan = replace(self.plan, portable=False, calls=(), races=False, warnings=False)
             evidence = self.evidence([solution], plan)[0]
             if faults := faults_of_solution(evidence, sheet):
                 raise Refused(*(f"{sheet.solution}, the solution, does not pass{f' on {run}' if run else ''}: {why}" for run, why in faults.items()))

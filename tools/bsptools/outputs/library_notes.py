@@ -6,7 +6,7 @@ import os
 import pathlib
 import re
 import struct
-from collections.abc import Callable
+from collections.abc import Callable, Iterable, Iterator
 from typing import NamedTuple
 
 from ..limits import MOST_MEMORY, PAGE
@@ -16,13 +16,29 @@ from .output_records import Record
 
 ASKED, REFUSED, ABSENT, UNWRITTEN, LOST, PENDING, EMPTY, CLOCK, STATUS, READ, LONG = "a", "m", "r", "w", "l", "p", "i", "c", "s", "d", "o"
 MOST_TOLD = 10
-# What does not fit into a `long`: path, line, and what it is of which type.
-SHORT = r"(?s)(.*):(\d+): (.*'(.*)', which has 32 bits here)"
+# How many bytes of notes are kept, each with its numbers.
+MOST_KEPT = 1 << 22
+# A line of a source in a note of what does not fit into a `long`, and the end of such a note.
+LINE, BITS = re.compile(r":(\d+): "), "', which has 32 bits here"
 _HEAD = struct.Struct("<5I")
 
 
+class TooShort(NamedTuple):
+    """What does not fit into a `long`: its place, path and line, what it is, and of which type."""
+
+    path: str
+    line: str
+    what: str
+    kind: str
+
+    def text(self, kind: str) -> str:
+        """What the note says, with another name of the type."""
+        return f"{self.path}:{self.line}: {self.what}'{kind}{BITS}"
+
+
 class Note(NamedTuple):
-    """A note: what it is, which rank made it in which superstep, the place behind the call of which it tells, numbers and a text."""
+    """A note: what it is, which rank made it in which superstep, the place behind the call of which it tells, numbers and a text; and which
+    of the notes of its rank in the superstep it is, from 0 on."""
 
     what: str
     rank: int
@@ -31,13 +47,26 @@ class Note(NamedTuple):
     one: int
     other: int
     text: str
+    number: int = 0
 
     @property
     def kind(self) -> tuple[str, int, str]:
         """What notes have in common that are told once."""
-        found = re.fullmatch(SHORT, self.text) if self.what == LONG else None
-        text = "" if self.what == READ else f"{found[1]}:{found[2]}" if found else self.text
+        found = self.too_short
+        text = "" if self.what == READ else f"{found.path}:{found.line}" if found else self.text
         return self.what, self.place if self.what in (REFUSED, PENDING) else 0, text
+
+    @property
+    def too_short(self) -> TooShort | None:
+        """What does not fit into a `long`, if the note says that. The last line and the last type count, since a path may look like them. The
+        program chooses the text, so that this takes no longer than the text is long."""
+        if self.what != LONG or not self.text.endswith(BITS):
+            return None
+        front, quote, kind = self.text[: -len(BITS)].rpartition("'")
+        last: re.Match[str] | None = None
+        for last in LINE.finditer(front):
+            pass
+        return TooShort(front[: last.start()], last[1], front[last.end() :], kind) if quote and last else None
 
 
 def note_of(record: Record) -> Note | None:
@@ -47,6 +76,34 @@ def note_of(record: Record) -> Note | None:
         return None
     what, superstep, place, one, other = _HEAD.unpack_from(content)
     return Note(chr(what & 0x7F), record.rank, superstep, place, one, other, os.fsdecode(content[_HEAD.size :]))
+
+
+class KeptNotes:
+    """The notes of a run that are told: of those of a rank that have their kind in common, the first. A run without an end may make notes
+    without an end."""
+
+    def __init__(self) -> None:
+        self._found: dict[tuple[int, tuple[str, int, str]], Note] = {}
+        # By ranks, the superstep of the last note, and how many notes the rank has made in it.
+        self._counts: dict[int, tuple[int, int]] = {}
+        self._room = MOST_KEPT
+
+    def __iter__(self) -> Iterator[Note]:
+        return iter(self._found.values())
+
+    def __len__(self) -> int:
+        return len(self._found)
+
+    def take(self, note: Note) -> None:
+        """Keeps a note, if it is to be told."""
+        superstep, count = self._counts.get(note.rank, (note.superstep, 0))
+        number = count if superstep == note.superstep else 0
+        self._counts[note.rank] = note.superstep, number + 1
+        size = len(note.text) + _HEAD.size
+        if note.what == ASKED or (note.rank, note.kind) in self._found or size > self._room:
+            return
+        self._found[note.rank, note.kind] = note._replace(number=number)
+        self._room -= size
 
 
 class NoteTeller:
@@ -60,7 +117,7 @@ class NoteTeller:
         self.code, self.memory, self.written = code, memory, written
         self.given, self.seconds, self.where = given, seconds, where
 
-    def lines(self, notes: list[Note]) -> list[str]:
+    def lines(self, notes: Iterable[Note]) -> list[str]:
         """A line for each kind of note, with how many more ranks made it."""
         kinds: dict[tuple[str, int, str], list[Note]] = {}
         for it in notes:
@@ -137,6 +194,6 @@ class NoteTeller:
 
 def too_short(note: Note) -> str:
     """What does not fit into a `long`, and what to write."""
-    found = re.fullmatch(SHORT, note.text)
-    where = f"{pathlib.PurePath(found[1]).name}:{found[2]}: {found[3]}" if found else note.text
-    return f"{where}: write " + ("uint64_t or unsigned long long" if found and "unsigned" in found[4] else "int64_t or long long")
+    found = note.too_short
+    where = found._replace(path=pathlib.PurePath(found.path).name).text(found.kind) if found else note.text
+    return f"{where}: write " + ("uint64_t or unsigned long long" if found and "unsigned" in found.kind else "int64_t or long long")

@@ -34,8 +34,8 @@ from .unbuffered_races import Race
 TAKING = ("__wrap_bsp_move", "__wrap_bsp_hpmove")
 QUEUE = (*TAKING, "__wrap_bsp_qsize", "__wrap_bsp_get_tag")
 CALLS = ("__wrap_bsp_hpput", "__wrap_bsp_hpget")
-LINE = re.compile(r"[^\s,]+:\d+")
-UNSET = re.compile(r"^(.*?):(\d+):\d+: warning: (.*) \[-W(?:maybe-)?uninitialized\]$")
+LINE = re.compile(r"(?<![^\s,])[^\s,]+:\d+")
+UNSET = re.compile(r"^(?=.* \[-W(?:maybe-)?uninitialized\]$)(.*?):(\d+):\d+: warning: (.*) \[-W(?:maybe-)?uninitialized\]$")
 MOST_TOLD = 3
 
 WHY_PUTS = "BSPlib leaves open in which order the puts and gets of a superstep write"

@@ -10,17 +10,19 @@ FORMAT = re.compile(
     r"warning: format ['‘].*['’] expects (?:a matching )?(?:argument of type )?['‘]([^'’]*)['’].*"
     r" has type ['‘]([^'’]*)['’](?: \{aka ['‘]([^'’]*)['’]\})? \[-Wformat=\]$"
 )
+# A text can give itself a name of any length, and then one of these would be looked for very long.
+MOST_OF_A_FORMAT = 10_000
 # Messages that GCC has where it optimizes alone.
 OPTIMIZED = re.compile(r": warning: .*\[-W(?:array-bounds|aggressive-loop-optimizations|stringop-over\w+|use-after-free)=?\]$")
 # What begins a message, and what stands in front of one: in which function or file it is.
 MESSAGE = re.compile(r".*: (?:warning|error|fatal error): ")
 SHOWN, DECLARED = re.compile(r"\s+(?:\d+ )?\|"), re.compile(r": note: in a call to function .* declared with attribute")
-FRONT = re.compile(r"[^|]*: (?:In|At) [^|]*:$|In (?:function|file included from) .*|\s+(?:inlined from|from) .*|\s*$")
+FRONT = re.compile(r"(?=[^|]*:$)[^|]*: (?:In|At) |In (?:function|file included from) .*|\s+(?:inlined from|from) .*|\s*$")
 
 
 def is_of_words(line: str) -> bool:
     """Whether a message is of a format and a value that are both whole numbers of 32 bits, or point to such."""
-    found = FORMAT.search(line)
+    found = FORMAT.search(line) if len(line) <= MOST_OF_A_FORMAT else None
     if found is None:
         return False
     wanted, given = found[1], found[3] or found[2]

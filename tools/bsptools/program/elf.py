@@ -22,7 +22,8 @@ HEADER = 52
 # The bits of a file's flags that say in which registers of floating point functions take values; zero where in none.
 FLOAT_ABI = 0x6
 # What the attributes of a file say of its instructions.
-ARCHITECTURE = re.compile(rb"rv32([0-9a-z_]+)\0")
+ARCHITECTURE = re.compile(rb"(?<![0-9a-z_])rv32([0-9a-z_]+)\0")
+VERSIONS = re.compile(r"(?<!\d)\d+p\d+")
 # A section of symbols, the bytes of one of them, and of a name at the most.
 SYMBOLS, SYMBOL_BYTES, SECTION_BYTES, MOST_NAME = 2, 16, 40, 1 << 12
 FUNCTION, OBJECT = "STT_FUNC", "STT_OBJECT"
@@ -77,7 +78,7 @@ def wants_atomics(content: bytes) -> bool:
     if found is None:
         return False
     first, *others = found[1].decode().split("_")
-    return any(re.sub(r"\d+p\d+", "", it).startswith("a") for it in others) or "a" in re.sub(r"\d+p\d+", "", first)
+    return any(VERSIONS.sub("", it).startswith("a") for it in others) or "a" in VERSIONS.sub("", first)
 
 
 def section(content: bytes, name: str) -> bytes:

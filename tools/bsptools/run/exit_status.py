@@ -6,9 +6,7 @@ import re
 from typing import NamedTuple
 
 from ..diagnosis.stop_reasons import Why
-from ..outputs import output_records
-from ..outputs.library_notes import STATUS, note_of
-from ..outputs.output_records import Record
+from ..outputs.library_notes import STATUS, KeptNotes
 from ..outputs.report import Report
 from ..prepare.job import Job
 
@@ -20,11 +18,10 @@ class Chosen(NamedTuple):
     is_of_all: bool
 
 
-def chosen_status(job: Job, found: Report, made: list[Record]) -> Chosen | None:
+def chosen_status(job: Job, found: Report, made: KeptNotes) -> Chosen | None:
     """The status other than 0 with which the lowest rank that was stopped ended the program, where all that were stopped ended it. Where
     some ranks did, the run is made again to see the others."""
-    notes = [it for it in (note_of(record) for record in made if record.kind == output_records.NOTE) if it is not None]
-    statuses = {it.rank: it.one & 0xFF for it in notes if it.what == STATUS}
+    statuses = {it.rank: it.one & 0xFF for it in made if it.what == STATUS}
     outcome = re.fullmatch(r"rank (\d+) stopped: aborted", found.outcome)
     if outcome is None or not statuses.get(int(outcome[1])):
         return None

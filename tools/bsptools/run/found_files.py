@@ -8,7 +8,7 @@ import pathlib
 import re
 
 from ..outputs import output_records
-from ..outputs.library_notes import ABSENT, ASKED, note_of
+from ..outputs.library_notes import ABSENT, ASKED, Note
 from ..outputs.output_records import Record
 from ..prepare.given_files import files_of, given_names, is_file
 from ..prepare.job import Job
@@ -17,6 +17,8 @@ from ..prepare.job import Job
 MOST_TOGETHER, MOST_BYTES = 256, 1 << 22
 # Names that are noted of those for which a program looks.
 MOST_SOUGHT = 1000
+# How many files are told of, each once, while the run goes on.
+MOST_MISSING = 100
 
 
 class Wanted(Exception):
@@ -29,11 +31,12 @@ class Wanted(Exception):
 
 class Finder:
     """Looks at the records of a run for files that the program asks for: for those that are here, in `names`, and for the others, in
-    `missing`."""
+    `missing`, each once."""
 
     def __init__(self, job: Job) -> None:
         self.names: list[str] = []
         self.missing: list[str] = []
+        self._told: set[str] = set()
         options = job.options
         self._is_off = options.no_files or not job.can_be_given
         self._given = {identity(it) for it in given_names(options)} - {None}
@@ -42,25 +45,24 @@ class Finder:
         # Of all runs of the job: what one of them asked for is given to the next one, and asked for no more.
         self._sought: dict[str, None] = options.sought
 
-    def look(self, record: Record) -> None:
-        """Looks at a record."""
+    def look(self, record: Record, note: Note | None) -> None:
+        """Looks at a record, which may be a note."""
         if record.kind == output_records.NAME:
             self._written.add(os.path.normpath(os.fsdecode(record.content[4:])))
-        note = note_of(record) if record.kind == output_records.NOTE else None
         if note is None or note.what not in (ABSENT, ASKED) or self._is_off or note.text in self.names:
             return
         self._seek(note.text)
         if is_file(note.text) and os.path.normpath(note.text) not in self._written and not self._is_given(note.text):
             self.names.append(note.text)
-        elif note.what == ABSENT and note.text not in self.missing:
+        elif note.what == ABSENT and note.text not in self._told and len(self._told) < MOST_MISSING:
+            self._told.add(note.text)
             self.missing.append(note.text)
-
 
     def _seek(self, name: str) -> None:
         """Takes note of a file on which a run rests, whether it is here or not: neither the user has given it, nor has the program written it."""
-        is_own = os.path.normpath(name) in self._written or self._is_given(name)
-        if not is_own and len(self._sought) < MOST_SOUGHT:
-            self._sought[name] = None
+        if name in self._sought or len(self._sought) >= MOST_SOUGHT or os.path.normpath(name) in self._written or self._is_given(name):
+            return
+        self._sought[name] = None
 
     def _is_given(self, name: str) -> bool:
         """Whether a file is given, or another one that the user has given is found by its name."""

@@ -22,7 +22,7 @@ from ..children import patience
 from ..files import content_of
 from ..limits import MOST_PROGRAM, MOST_TICKS
 from ..outputs import output_records
-from ..outputs.library_notes import LONG, SHORT, Note, NoteTeller, note_of
+from ..outputs.library_notes import Note, NoteTeller, note_of
 from ..outputs.output_demux import Marks
 from ..prepare.clock_rate import with_clock_rate
 from ..prepare.job import Job
@@ -219,9 +219,9 @@ class Beside:
         for kind, piece in self._marks.take(content) if self._marks is not None else ():
             record = output_records.record_of(kind, piece) if kind == output_records.NOTE else None
             note = note_of(record) if record is not None else None
-            found = re.fullmatch(SHORT, note.text) if note is not None and note.what == LONG else None
-            if note is not None and found and (spelled := self._places.get((found[1], note.one, note.other))):
-                self.notes.append(note._replace(text=f"{note.text[:found.start(4)]}{spelled}{note.text[found.end(4):]}"))
+            found = note.too_short if note is not None else None
+            if note is not None and found and (spelled := self._places.get((found.path, note.one, note.other))):
+                self.notes.append(note._replace(text=found.text(spelled)))
 
     def _end(self) -> None:
         self._left.close()

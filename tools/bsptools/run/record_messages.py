@@ -4,8 +4,7 @@ from __future__ import annotations
 
 from ..diagnosis.stop_reasons import MOST_TRACED
 from ..framed.backtrace import frames, place, users_frames
-from ..outputs.library_notes import Note, NoteTeller, note_of
-from ..outputs.output_records import Record
+from ..outputs.library_notes import KeptNotes, Note, NoteTeller
 from ..outputs.report import Report
 from ..outputs.written_files import Files
 from ..prepare.clock_rate import seconds
@@ -17,18 +16,17 @@ from ..refusals import counted, tell
 MOST_NAMED = 5
 
 
-def tell_records(job: Job, made: list[Record], written: Files, found: Report, untold: str = "") -> bool:
+def tell_records(job: Job, made: KeptNotes, written: Files, found: Report, untold: str = "") -> bool:
     """Puts the files that were written where they belong, and tells what the program's library noted, but for one kind of notes; whether no
     file is lacking."""
     options = job.options
     put_files(job, written)
-    notes = [it for it in map(note_of, made) if it is not None]
 
     def where(note: Note) -> str:
-        return place_of(job, found, notes, note)
+        return place_of(job, found, note)
 
     teller = NoteTeller(job.code, options.memory, written.writers(), options.input, seconds(options), where)
-    tell(teller.lines([it for it in notes if it.what != untold]))
+    tell(teller.lines(it for it in made if it.what != untold))
     return written.is_put and written.is_whole
 
 
@@ -51,7 +49,7 @@ def listed(names: list[str]) -> str:
     return ", ".join(names[:MOST_NAMED]) + (f" and {counted(more, 'more file')}" if more > 0 else "")
 
 
-def place_of(job: Job, found: Report, notes: list[Note], note: Note) -> str:
+def place_of(job: Job, found: Report, note: Note) -> str:
     """Function and line at which a rank was when it made a note: the run is made again up to there. Nothing if that takes long, or no
     line is known."""
     rank, superstep = note.rank, note.superstep
@@ -59,10 +57,9 @@ def place_of(job: Job, found: Report, notes: list[Note], note: Note) -> str:
     most = job.options.nodes * sum(it.costs["w"] for it in found.supersteps[: superstep + 1])
     if entry is None or most > MOST_TRACED:
         return ""
-    before = [it for it in notes if (it.rank, it.superstep) == (rank, superstep)].index(note)
     replays = job.replays()
     stops = replays.stops([*replays.begin_for(rank, superstep), f"break superstep {superstep + 1}"], rank, [entry])
-    node = replays.look_after(superstep, rank, stops[before].ticks) if before < len(stops) else None
+    node = replays.look_after(superstep, rank, stops[note.number].ticks) if note.number < len(stops) else None
     if node is None or not users_frames(job.code, frames(job.code, node)):
         return ""
     return place(job.code, node, is_call_told=True)

@@ -20,6 +20,7 @@ from typing import NamedTuple
 
 from .. import children, files, streams
 from ..outputs import report
+from ..outputs.library_notes import KeptNotes, note_of
 from ..outputs.output_demux import ERROR, OUTPUT, Marks, Tail, new_digest
 from ..outputs.output_records import NOTE, Record, record_of
 from ..outputs.written_files import Files
@@ -52,7 +53,7 @@ class Done(NamedTuple):
     report: report.Report | None
     said: bytes
     seconds: float
-    notes: list[Record]
+    notes: KeptNotes
     files: Files
     is_line_whole: bool
     has_null: bool
@@ -88,8 +89,8 @@ class Outputs:
         # Of all that was written, if that is wanted.
         self._sum = new_digest() if is_compared else None
         self.nodes, self.received = nodes, 0
+        self.notes = KeptNotes()
         # A run without an end may write to files without an end, so no more is kept than the files have.
-        self.notes: list[Record] = []
         self.files = Files()
         # Whether what stands at address 0 was written, as by puts(NULL).
         self.has_null = False
@@ -120,13 +121,15 @@ class Outputs:
                 self._give(kind == ERROR, piece)
 
     def _keep(self, record: Record | None) -> None:
-        if record is not None:
-            if record.kind == NOTE:
-                self.notes.append(record)
-            else:
-                self.files.take(record)
-            if not self.repeated.is_long:
-                self.finder.look(record)
+        if record is None:
+            return
+        note = note_of(record) if record.kind == NOTE else None
+        if note is not None:
+            self.notes.take(note)
+        elif record.kind != NOTE:
+            self.files.take(record)
+        if not self.repeated.is_long:
+            self.finder.look(record, note)
 
     def begin(self) -> None:
         """Writes what was kept of the first superstep."""

@@ -258,9 +258,9 @@ TOLD_HIDDEN = {
     "level.c": ('#pragma GCC diagnostic warning "-Wimplicit-fallthrough=0"\n' + PROGRAM % (FALLS, 'puts("it");'), "it hides warnings, at line 1"),
     "options.c": (f'#pragma GCC optimize ("O0")\n#ifndef __OPTIMIZE__\n{IGNORES}#endif\n{UNUSED}', "it changes the compiler's options, which can hide warnings, at line 1"),
     "notes.c": ('#pragma message "x"\n' * 40 + UNUSED, "1 warning, the first: notes.c, line 47: unused variable 'unused'"),
-    "notes_without_end.c": ('#pragma message "x"\n' * 6000 + UNUSED, "it could not be checked whether it hides warnings: the compiler prints too much"),
+    "notes_without_end.c": (f'#pragma message "{"x" * 1000}"\n' * 300 + UNUSED, "it could not be checked whether it hides warnings: the compiler prints too much"),
     "name.c": (f'#line 1 "{"a" * 5000}"\n{UNUSED}', "unused variable 'unused'"),
-    "pedantic.c": ("#define F(a...)\n" * 3000 + "# 1 \"x.c\" 3\n" + UNUSED, "it could not be checked whether it hides warnings: the compiler prints too much"),
+    "pedantic.c": (f"#define F{'x' * 300}(a...)\n" * 900 + "# 1 \"x.c\" 3\n" + UNUSED, "it could not be checked whether it hides warnings: the compiler prints too much"),
 }  # fmt: skip
 SHOWN = {
     "plain.c": PROGRAM % ("", 'puts("it");'),
@@ -291,8 +291,10 @@ def hides(tally: Tally, folder: pathlib.Path) -> None:
     for name in shown:
         row = rows.get(name, {"verdict": done.stderr, "points": ""})
         tally.expect(f"{name} hides none", (row["verdict"], row["points"]) == ("right", "12"), row)
-    done = bench.run("none.toml", "pragma.c", "place.c", "options.c")
-    tally.expect("no points for warnings", done.returncode == ALL_RIGHT, done)
+    for sheet, what, status in ((WARNS_SHEET.partition("[points]")[0], "no points for warnings", ALL_RIGHT), (WARNS_SHEET, "points later", NOT_ALL_RIGHT)):
+        bench.write("none.toml", sheet)
+        done = bench.run("none.toml", "pragma.c", "place.c", "options.c")
+        tally.expect(what, done.returncode == status, done)
     long = hidden_warnings.fault(bounded_run.Ran(bounded_run.LONG, -9, b"", b""), "a.c")
     tally.expect("a text that is too long to be looked at", long.endswith("its macros make more than 16777216 bytes"), long)
 

@@ -75,5 +75,5 @@ def plan_text(plan: Plan) -> str:
     runs = [(it.nodes, it.defines, it.input, it.args, it.given, it.limit, it.output, it.g, it.l) for it in plan.runs]
     # What bounds come to decides what is looked for beside.
     bounds = [[sorted(it.values.items()), sorted(it.solution.items()), *(bound.formula.text for bound in it.bounds)] for it in plan.runs]
-    others = [plan.files, plan.calls, plan.memory, plan.seconds, plan.strict, plan.races, plan.portable]
+    others = [plan.files, plan.calls, plan.memory, plan.seconds, plan.strict, plan.races, plan.portable, plan.warnings]
     return repr([runs, bounds, others])

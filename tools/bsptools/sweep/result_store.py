@@ -66,7 +66,8 @@ class Place(NamedTuple):
         """What came of it; nothing if it was not made, what is kept is not what was written, or a file that its program looked for is another
         one here now."""
         record: Record | None = sealed_results.found(self.file("json", copy), self.folder.name)
-        return record if record is not None and found_now(os.curdir, record["sought"]) == record["sought"] else None
+        sought = record.get("sought") if record is not None else None
+        return record if sought is not None and found_now(os.curdir, sought) == sought else None
 
     @property
     def ticket(self) -> pathlib.Path:

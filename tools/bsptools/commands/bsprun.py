@@ -308,6 +308,9 @@ def main(words: list[str]) -> int:
             from ..portable.orders import with_order
 
             job = with_order(job, folder)
+        if builds is not None and options.sources:
+            # A run has one processor, unless --workers is given.
+            builds.begin_valued()
         status = run(job, beside, folder, Repeated())
         if builds is not None and (status == 0 or getattr(options, "is_tried", False)):
             from ..portable.portability import is_portable

@@ -151,8 +151,7 @@ class Portable:
         self.trials.begin_all(self.fresh_choices())
         self.begin_likely_orders()
         if self.subject.options.sources:
-            for value in VALUES:
-                self.builds.begin(*options_for(value))
+            self.builds.begin_valued()
             self.valued = self.builds.pool.submit(self.with_values)
 
     def begin_likely_orders(self) -> None:
@@ -649,6 +648,11 @@ class Builds:
             target = self.folder / f"portable{len(self.made)}.elf"
             self.made[options] = self.pool.submit(self._build, target, options)
         return self.made[options]
+
+    def begin_valued(self) -> None:
+        """Begins the builds in which GCC gives variables of functions values, unless they were begun."""
+        for value in VALUES:
+            self.begin(*options_for(value))
 
     def get(self, subject: Subject, ticks: int, *options: str) -> tuple[Trials, list[str]]:
         """A build that takes choices, and what was said of it. If there is none of the sources as they are, that is told."""

@@ -62,6 +62,7 @@ SECTIONS
     /* Has room where a function is linked that asks for a place in the input: src/streams.c. */
     .goes_back (NOLOAD) : { *(.bss.bsp_goes_back) } :data
     .bss (NOLOAD) : {
+        __bss_start = .;
         *(.sbss .sbss.* .gnu.linkonce.sb.* .scommon)
         *(.bss .bss.* .gnu.linkonce.b.* COMMON)
         . = ALIGN(16);

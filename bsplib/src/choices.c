@@ -47,12 +47,14 @@ struct bsp_choices bsp_choices __attribute__((section(".data"))) = {.magic = "\0
 /* What a target of bsp_hpget has between the call and bsp_sync. */
 #define SPOILT 0xa5
 
-/* Where this rank is: its number, its superstep, in that its points of each kind, whether it has cuts there, whether its puts, gets and
-   sends are made as they are and not told, and whether bsp_move takes the machine's messages as they come. */
+/* Where this rank is: its number, its superstep, in that its points of each kind, and whether it has cuts there. */
 static struct {
     unsigned rank, superstep, calls, pieces;
-    int has_cuts, is_plain, is_queue_plain;
+    int has_cuts;
 } here;
+/* Whether in this superstep puts, gets and sends are made as they are, and not told or counted, and whether bsp_move takes the machine's
+   messages as they come. Each is a variable of its own, which takes one instruction to read. */
+static int is_plain, is_queue_plain;
 unsigned bsp_requested = 0;
 
 typedef unsigned __attribute__((may_alias)) any_word;
@@ -130,17 +132,11 @@ static void write_log(void)
     logged = 0;
 }
 
-/* In line, the call is written to its place at once. */
-static inline __attribute__((always_inline)) void log_in_line(struct logged call)
-{
-    record.calls[logged++] = call;
-    if (logged == MOST_LOGGED)
-        write_log();
-}
-
 static __attribute__((noinline)) void log_call(struct logged call)
 {
-    log_in_line(call);
+    if (logged == MOST_LOGGED)
+        write_log();
+    record.calls[logged++] = call;
 }
 #define LOG(number, pid, src, dst, offset, nbytes, tag)                                                                              \
     do {                                                                                                                             \
@@ -195,29 +191,48 @@ static int is_cut(const struct cut *it, unsigned request)
 static void begin_superstep(void)
 {
     here.has_cuts = bsp_choices.cuts > 0 && !bsp_choices.is_alone && !bsp_choices.is_summed && is_here(cuts_from(0));
-    here.is_plain = !here.has_cuts && !bsp_choices.is_logged && bsp_choices.unbuffered == AS_BUFFERED;
-    here.is_queue_plain = here.is_plain && !IS_OTHERWISE;
+    is_plain = !here.has_cuts && !bsp_choices.is_logged && bsp_choices.unbuffered == AS_BUFFERED;
+    is_queue_plain = is_plain && !IS_OTHERWISE;
 }
 
 __attribute__((noreturn)) extern void __real_bsp_start(void);
+
+/* As many bytes as an instruction stores. */
+#if defined __riscv_flen && __riscv_flen >= 64
+typedef double any_filling;
+#else
+typedef unsigned any_filling;
+#endif
+union filling {
+    unsigned char bytes[sizeof(any_filling)];
+    any_filling whole;
+};
 
 /* Fills the stack from the frame of the caller on, downwards to the guard at address 0 or by so many bytes. It calls nothing, and what is
    below its own frame belongs to nobody. */
 static __attribute__((noinline)) void fill_stack(size_t most)
 {
-    unsigned word = bsp_choices.stack * 0x01010101u;
+    static union filling filling;
     char *lowest = (char *)(bsp_null + 4), *top;
+    volatile any_filling *it;
+    any_filling whole;
     size_t left;
     __asm__ volatile("mv %0, sp" : "=r"(top));
-    if (word == 0 || top <= lowest)
+    if (bsp_choices.stack == 0 || top <= lowest)
         return;
-    left = (size_t)(top - lowest) / sizeof word;
-    for (left = left < most / sizeof word ? left : most / sizeof word; left >= 8; left -= 8) {
-        volatile unsigned *it = (volatile unsigned *)(top -= 8 * sizeof word);
-#pragma GCC unroll 8
-        for (int i = 0; i < 8; i++)
-            it[i] = word;
+    for (left = 0; left < sizeof filling; left++)
+        filling.bytes[left] = (unsigned char)bsp_choices.stack;
+    whole = filling.whole;
+    left = (size_t)(top - lowest) / sizeof whole;
+    it = (volatile any_filling *)top;
+    for (left = left < most / sizeof whole ? left : most / sizeof whole; left >= 16; left -= 16) {
+        it -= 16;
+#pragma GCC unroll 16
+        for (int i = 0; i < 16; i++)
+            it[i] = whole;
     }
+    for (; left > 0; left--)
+        *--it = whole;
 }
 
 /* Goes on with the stack so many bytes lower. */
@@ -251,34 +266,83 @@ extern void __real_bsp_begin(int maxprocs);
 
 static char *variables_at_start = NULL;
 
-static void copy_variables(int is_back)
+/* From where on variables are 0 where main begins: those of .bss, if no constructor was there before. The others are kept. */
+extern void (*__preinit_array_start[])(void), (*__init_array_end[])(void);
+extern char __bss_start[];
+
+static char *first_zero(void)
 {
-    const struct cut *it, *end = bsp_choices.cut + bsp_choices.cuts;
-    char *kept = variables_at_start;
-    for (it = bsp_choices.cut; it < end; kept += it->to - it->from, it++) {
-        char *variable = (char *)(size_t)it->from;
-        memcpy(is_back ? variable : kept, is_back ? kept : variable, (size_t)(it->to - it->from));
+    return __preinit_array_start == __init_array_end ? __bss_start : (char *)(size_t)-1;
+}
+
+/* What of some variables is kept ends here. */
+static char *end_of_kept(const struct cut *it)
+{
+    char *from = (char *)(size_t)it->from, *to = (char *)(size_t)it->to, *end = first_zero();
+    return end < from ? from : end < to ? end : to;
+}
+
+/* The first byte that is not 0 from a multiple of 4 on lies in so many bytes from here, or behind all that are looked at so: fewer are left. Most
+   of large areas is never used. */
+enum { ZEROS = 128 };
+static inline const unsigned char *past_zeros(const unsigned char *at, const unsigned char *end)
+{
+    for (; end - at >= ZEROS; at += ZEROS) {
+        const any_word *it = (const any_word *)at;
+        unsigned found = 0;
+#pragma GCC unroll 32
+        for (unsigned i = 0; i < ZEROS / sizeof *it; i++)
+            found |= it[i];
+        if (found != 0)
+            break;
+    }
+    return at;
+}
+
+/* Writes 0 over what is something else, so that the machine has no memory for the rest of large areas. */
+static void clear(unsigned char *at, const unsigned char *end)
+{
+    while (at < end) {
+        size_t size = sizeof(any_word) - (size_t)at % sizeof(any_word);
+        if (size == sizeof(any_word)) {
+            at = (unsigned char *)past_zeros(at, end);
+            size = ZEROS;
+        }
+        size = size < (size_t)(end - at) ? size : (size_t)(end - at);
+        memset(at, 0, size);
+        at += size;
     }
 }
 
 int __wrap_main(int argc, char **argv)
 {
+    const struct cut *it, *end = bsp_choices.cut + bsp_choices.cuts;
     size_t size = 0;
-    unsigned i;
+    char *kept;
     if (bsp_choices.is_alone && here.rank > 0) {
-        for (i = 0; i < bsp_choices.cuts; i++)
-            size += (size_t)(bsp_choices.cut[i].to - bsp_choices.cut[i].from);
-        variables_at_start = take_room(size, 0);
-        copy_variables(0);
+        for (it = bsp_choices.cut; it < end; it++)
+            size += (size_t)(end_of_kept(it) - (char *)(size_t)it->from);
+        kept = variables_at_start = take_room(size, 0);
+        for (it = bsp_choices.cut; it < end; it++) {
+            size = (size_t)(end_of_kept(it) - (char *)(size_t)it->from);
+            memcpy(kept, (char *)(size_t)it->from, size);
+            kept += size;
+        }
     }
     return __real_main(argc, argv);
 }
 
 void __wrap_bsp_begin(int maxprocs)
 {
+    const struct cut *it, *end = bsp_choices.cut + bsp_choices.cuts;
+    const char *kept = variables_at_start;
     __real_bsp_begin(maxprocs);
-    if (variables_at_start != NULL)
-        copy_variables(1);
+    for (it = bsp_choices.cut; kept != NULL && it < end; it++) {
+        size_t size = (size_t)(end_of_kept(it) - (char *)(size_t)it->from);
+        memcpy((char *)(size_t)it->from, kept, size);
+        kept += size;
+        clear((unsigned char *)end_of_kept(it), (const unsigned char *)(size_t)it->to);
+    }
     room.low = room.start;
 }
 
@@ -342,11 +406,12 @@ static void get_parts(real_get *get, unsigned request, int pid, const void *src,
 /* Nothing follows the call that is made as it is, so that GCC goes on there: then the library sees where the program has made it. */
 void __wrap_bsp_put(int pid, const void *src, void *dst, int offset, int nbytes)
 {
-    unsigned request = bsp_requested++;
-    if (here.is_plain) {
+    unsigned request;
+    if (is_plain) {
         __real_bsp_put(pid, src, dst, offset, nbytes);
         return;
     }
+    request = bsp_requested++;
     LOG(CALL_PUT, pid, src, dst, offset, nbytes, 0);
     if (here.has_cuts && is_cut(cuts_from(request), request)) {
         put_parts(__real_bsp_put, request, pid, src, dst, offset, nbytes);
@@ -357,11 +422,12 @@ void __wrap_bsp_put(int pid, const void *src, void *dst, int offset, int nbytes)
 
 void __wrap_bsp_get(int pid, const void *src, int offset, void *dst, int nbytes)
 {
-    unsigned request = bsp_requested++;
-    if (here.is_plain) {
+    unsigned request;
+    if (is_plain) {
         __real_bsp_get(pid, src, offset, dst, nbytes);
         return;
     }
+    request = bsp_requested++;
     LOG(CALL_GET, pid, src, dst, offset, nbytes, 0);
     if (here.has_cuts && is_cut(cuts_from(request), request)) {
         get_parts(__real_bsp_get, request, pid, src, offset, dst, nbytes);
@@ -380,42 +446,52 @@ static inline unsigned word_at(const void *at)
     return word;
 }
 
-/* Tells of a message: also its last 8 bytes, or those that there are. */
-static __attribute__((noinline)) void log_send(const void *place, int pid, const void *tag, const void *payload, int nbytes)
+/* What is told of a message: also its last 8 bytes, or those that there are. */
+static inline __attribute__((always_inline)) struct logged sent(const void *place, int pid, const void *tag, const void *payload, int nbytes)
 {
     const char *end = (const char *)payload + nbytes;
-    unsigned low = 0, high = 0;
-    if (!bsp_choices.is_logged || bsp_part != BSP_WITHIN)
-        return;
+    struct logged call = {CALL_SEND, (unsigned)place, pid, (unsigned)payload, 0, 0, nbytes, (unsigned)tag};
     if (nbytes >= 8) {
-        low = word_at(end - 8);
-        high = word_at(end - 4);
+        call.dst = word_at(end - 8);
+        call.offset = (int)word_at(end - 4);
     } else if (nbytes == 4) {
-        low = word_at(payload);
+        call.dst = word_at(payload);
     }
-    log_in_line((struct logged){CALL_SEND, (unsigned)place, pid, (unsigned)payload, low, (int)high, nbytes, (unsigned)tag});
+    return call;
+}
+
+typedef void real_send(int pid, const void *tag, const void *payload, int payload_nbytes);
+
+static __attribute__((noinline)) void log_and_send(int pid, const void *tag, const void *payload, int nbytes, const void *place, real_send *send)
+{
+    bsp_requested++;
+    if (bsp_choices.is_logged && bsp_part == BSP_WITHIN)
+        log_call(sent(place, pid, tag, payload, nbytes));
+    send(pid, tag, payload, nbytes);
+}
+
+/* Where calls are told, most of a run may be messages. So one for which there is room is written to its place at once. */
+static inline __attribute__((always_inline)) void send_as(real_send *send, int pid, const void *tag, const void *payload, int nbytes, const void *place)
+{
+    if (is_plain) {
+        send(pid, tag, payload, nbytes);
+    } else if (!bsp_choices.is_logged || bsp_part != BSP_WITHIN || logged == MOST_LOGGED) {
+        log_and_send(pid, tag, payload, nbytes, place, send);
+    } else {
+        bsp_requested++;
+        record.calls[logged++] = sent(place, pid, tag, payload, nbytes);
+        send(pid, tag, payload, nbytes);
+    }
 }
 
 void __wrap_bsp_send(int pid, const void *tag, const void *payload, int payload_nbytes)
 {
-    bsp_requested++;
-    if (here.is_plain) {
-        __real_bsp_send(pid, tag, payload, payload_nbytes);
-        return;
-    }
-    log_send(__builtin_return_address(0), pid, tag, payload, payload_nbytes);
-    __real_bsp_send(pid, tag, payload, payload_nbytes);
+    send_as(__real_bsp_send, pid, tag, payload, payload_nbytes, __builtin_return_address(0));
 }
 
 void __wrap_bsp_hpsend(int pid, const void *tag, const void *payload, int payload_nbytes)
 {
-    bsp_requested++;
-    if (here.is_plain) {
-        __real_bsp_hpsend(pid, tag, payload, payload_nbytes);
-        return;
-    }
-    log_send(__builtin_return_address(0), pid, tag, payload, payload_nbytes);
-    __real_bsp_hpsend(pid, tag, payload, payload_nbytes);
+    send_as(__real_bsp_hpsend, pid, tag, payload, payload_nbytes, __builtin_return_address(0));
 }
 
 /* What else is told. */
@@ -484,11 +560,12 @@ static int is_kept(int nbytes, unsigned kinds)
 
 void __wrap_bsp_hpput(int pid, const void *src, void *dst, int offset, int nbytes)
 {
-    unsigned index = here.calls++, request = bsp_requested++;
-    if (here.is_plain) {
+    unsigned index, request;
+    if (is_plain) {
         __real_bsp_hpput(pid, src, dst, offset, nbytes);
         return;
     }
+    index = here.calls++, request = bsp_requested++;
     LOG(CALL_HPPUT, pid, src, dst, offset, nbytes, 0);
     if (here.has_cuts && is_cut(cuts_from(request), request)) {
         put_parts(__real_bsp_hpput, request, pid, src, dst, offset, nbytes);
@@ -506,11 +583,12 @@ void __wrap_bsp_hpput(int pid, const void *src, void *dst, int offset, int nbyte
 
 void __wrap_bsp_hpget(int pid, const void *src, int offset, void *dst, int nbytes)
 {
-    unsigned index = here.calls++, request = bsp_requested++;
-    if (here.is_plain) {
+    unsigned index, request;
+    if (is_plain) {
         __real_bsp_hpget(pid, src, offset, dst, nbytes);
         return;
     }
+    index = here.calls++, request = bsp_requested++;
     LOG(CALL_HPGET, pid, src, dst, offset, nbytes, 0);
     if (here.has_cuts && is_cut(cuts_from(request), request)) {
         get_parts(__real_bsp_hpget, request, pid, src, offset, dst, nbytes);
@@ -575,6 +653,10 @@ static struct {
     int is_kept, bytes;
     int received_tag, tag, next_tag; /* the sizes of tags in the queue, in this superstep and in the next one */
 } queue;
+/* If each message is one word and has no tag, as most are that have a number, these are all that is kept: `queue` has none then. */
+static any_word *next_word = NULL, *end_of_words = NULL;
+/* How many messages are left in the machine's queue, where calls are told and that is known, and else -1. */
+static int left_in_machine = -1;
 
 /* How many bytes before its payload a message has its tag. */
 static size_t tag_room(void)
@@ -596,58 +678,124 @@ void __wrap_bsp_set_tagsize(int *tag_nbytes)
     queue.next_tag = wanted;
 }
 
-/* Swaps messages as far as they are chosen. tools/bsptools/prepare/library_choices.py makes the same swaps. */
-static void swap_messages(struct message *all, int count)
+/* Draws the swaps of an order: which message changes its place with message `i` of so many. tools/bsptools/prepare/library_choices.py makes
+   the same swaps. */
+struct draw {
+    unsigned random, number;
+};
+
+static inline __attribute__((always_inline)) int drawn(struct draw *draw, unsigned order, int i, int count)
 {
-    unsigned random = bsp_choices.seed + here.superstep * 2654435761u + here.rank * 40503u, number = bsp_choices.seed;
-    unsigned chosen = chosen_here(), order = bsp_choices.order;
-    int i, other;
-    for (i = 0; i < count - 1 && (unsigned)i < chosen; i++) {
-        unsigned left = (unsigned)(count - i);
-        other = i;
-        if (order == SHUFFLED) {
-            random = random * 1664525u + 1013904223u;
-            other = i + (int)((random >> 8) % left);
-        } else if (order == NUMBERED) {
-            other = i + (int)(number % left);
-            number /= left;
-        } else if (i < count / 2) {
-            other = count - 1 - i;
-        }
+    unsigned left = (unsigned)(count - i), number = draw->number;
+    if (order == SHUFFLED) {
+        draw->random = draw->random * 1664525u + 1013904223u;
+        return i + (int)((draw->random >> 8) % left);
+    }
+    if (order == NUMBERED) {
+        draw->number = number / left;
+        return i + (int)(number % left);
+    }
+    return i < count / 2 ? count - 1 - i : i;
+}
+
+/* How many swaps of so many messages are chosen. */
+static int chosen_swaps(int count)
+{
+    unsigned chosen = chosen_here();
+    return count < 2 ? 0 : chosen < (unsigned)(count - 1) ? (int)chosen : count - 1;
+}
+
+static void swap_messages(struct message *all, int count, struct draw draw)
+{
+    int i, swaps = chosen_swaps(count);
+    for (i = 0; i < swaps; i++) {
+        int other = drawn(&draw, bsp_choices.order, i, count);
         struct message message = all[i];
         all[i] = all[other];
         all[other] = message;
     }
 }
 
-/* Takes what is left in the machine's queue. The calls are made here, since of many messages most of a run would be these. */
+/* In line, so that there is a loop for each order. */
+static inline __attribute__((always_inline)) void swap_words_in(unsigned order, any_word *all, int count, struct draw draw)
+{
+    int i, swaps = chosen_swaps(count);
+    for (i = 0; i < swaps; i++) {
+        int other = drawn(&draw, order, i, count);
+        any_word word = all[i];
+        all[i] = all[other];
+        all[other] = word;
+    }
+}
+
+static void swap_words(any_word *all, int count, struct draw draw)
+{
+    if (bsp_choices.order == SHUFFLED)
+        swap_words_in(SHUFFLED, all, count, draw);
+    else if (bsp_choices.order == NUMBERED)
+        swap_words_in(NUMBERED, all, count, draw);
+    else
+        swap_words_in(REVERSED, all, count, draw);
+}
+
+/* Takes messages out of the machine's queue as long as they are one word each, and answers how many were. The calls are made here, since of
+   many messages most of a run would be these. */
+static int keep_words(any_word *all, int count)
+{
+    any_word *it;
+    int size;
+    for (it = all; it < all + count; it++) {
+        machine_call_2(CALL_GET_TAG, (long)&size, (long)it);
+        if (size != (int)sizeof *it)
+            break;
+        machine_call_2(CALL_MOVE, (long)it, sizeof *it);
+    }
+    return (int)(it - all);
+}
+
+/* Takes what is left in the machine's queue. */
 static __attribute__((noinline)) void keep_queue(void)
 {
-    int messages, bytes;
+    int messages, bytes, words = 0, i;
     size_t tag_size = tag_room();
-    struct message *it;
+    struct draw draw = {bsp_choices.seed + here.superstep * 2654435761u + here.rank * 40503u, bsp_choices.seed};
+    any_word *first_word = NULL;
     char *place;
     machine_call_2(CALL_QSIZE, (long)&messages, (long)&bytes);
+    queue.is_kept = 1;
+    queue.bytes = 0;
+    is_queue_plain = 0;
+    if (queue.received_tag == 0 && bsp_access == NULL && (size_t)bytes == (size_t)messages * sizeof *first_word) {
+        first_word = (any_word *)take_room((size_t)bytes, 0);
+        words = keep_words(first_word, messages);
+        if (words == messages) {
+            next_word = first_word;
+            end_of_words = first_word + words;
+            if (bsp_choices.order != AS_SENT)
+                swap_words(first_word, words, draw);
+            return;
+        }
+    }
     queue.next = (struct message *)take_room((size_t)messages * sizeof *queue.next, 0);
     queue.end = queue.next + messages;
+    for (i = 0; i < words; i++)
+        queue.next[i] = (struct message){(char *)(first_word + i), sizeof *first_word};
     if ((size_t)(room.high - room.low) / (tag_size + 7 + 1) < (size_t)messages)
         take_room((size_t)-8, 0);
     /* As much as they can take, in steps of 8 bytes each. */
     place = take_room((size_t)messages * (tag_size + 7) + (size_t)bytes, 0);
-    for (it = queue.next; it < queue.end; it++) {
+    for (; i < messages; i++) {
         char *payload = place + tag_size;
         int size;
         machine_call_2(CALL_GET_TAG, (long)&size, (long)place);
         machine_call_2(CALL_MOVE, (long)payload, size);
-        *it = (struct message){payload, size};
+        queue.next[i] = (struct message){payload, size};
         place = payload + (((size_t)size + 7) & ~(size_t)7);
     }
     room.low = place;
     queue.bytes = bytes;
-    queue.is_kept = 1;
-    here.is_queue_plain = 0;
     if (bsp_choices.order != AS_SENT)
-        swap_messages(queue.next, messages);
+        swap_messages(queue.next, messages, draw);
 }
 
 /* Whether the queue is kept here. Outside of bsp_begin and bsp_end the functions themselves stop the program. */
@@ -664,9 +812,29 @@ void __wrap_bsp_qsize(int *nmessages, int *accum_nbytes)
         return;
     }
     if (nmessages != NULL)
-        *nmessages = (int)(queue.end - queue.next);
+        *nmessages = (int)(queue.end - queue.next) + (int)(end_of_words - next_word);
     if (accum_nbytes != NULL)
-        *accum_nbytes = queue.bytes;
+        *accum_nbytes = queue.bytes + (int)((const char *)end_of_words - (const char *)next_word);
+}
+
+/* Whether a message is left of those that are kept, and the first one, which may be taken. */
+static int has_message(void)
+{
+    return next_word != end_of_words || queue.next != queue.end;
+}
+
+static struct message first_message(int is_taken)
+{
+    struct message it;
+    if (next_word != end_of_words) {
+        it = (struct message){(char *)next_word, sizeof *next_word};
+        next_word += is_taken;
+    } else {
+        it = *queue.next;
+        queue.next += is_taken;
+        queue.bytes -= is_taken ? it.size : 0;
+    }
+    return it;
 }
 
 void __wrap_bsp_get_tag(int *status, void *tag)
@@ -675,51 +843,35 @@ void __wrap_bsp_get_tag(int *status, void *tag)
         __real_bsp_get_tag(status, tag);
         return;
     }
-    if (queue.next == queue.end) {
+    if (!has_message()) {
         *status = -1;
         return;
     }
-    *status = queue.next->size;
+    *status = first_message(0).size;
     WRITES(tag, queue.received_tag, __builtin_return_address(0));
-    memcpy(tag, queue.next->payload - tag_room(), (size_t)queue.received_tag);
-}
-
-/* Takes the first message that is left. */
-static const struct message *next_message(void)
-{
-    const struct message *it = queue.next++;
-    queue.bytes -= it->size;
-    return it;
+    memcpy(tag, first_message(0).payload - tag_room(), (size_t)queue.received_tag);
 }
 
 /* Tells of a message that is taken where none is left in the machine's queue. */
 static __attribute__((noinline)) void log_move(const void *place)
 {
-    int messages, bytes;
+    int bytes;
     if (!bsp_choices.is_logged || bsp_part != BSP_WITHIN)
         return;
-    machine_call_2(CALL_QSIZE, (long)&messages, (long)&bytes);
-    if (messages == 0)
+    if (left_in_machine < 0)
+        machine_call_2(CALL_QSIZE, (long)&left_in_machine, (long)&bytes);
+    if (left_in_machine == 0)
         log_call((struct logged){.number = LOG_NO_MESSAGE, .place = (unsigned)place});
+    else
+        left_in_machine--;
 }
 
 static __attribute__((noinline)) void move_kept(void *payload, int reception_nbytes, const void *place)
 {
-    const struct message *it = next_message();
-    int count = it->size < reception_nbytes ? it->size : reception_nbytes;
+    struct message it = first_message(1);
+    int count = it.size < reception_nbytes ? it.size : reception_nbytes;
     WRITES(payload, count, place);
-    memcpy(payload, it->payload, (size_t)count);
-}
-
-/* Takes a message that is one word, as most are that have a number, and answers whether the next one is. */
-static inline int move_word(void *payload, int reception_nbytes)
-{
-    const struct message *it = queue.next;
-    int is_word = it != queue.end && bsp_access == NULL && it->size == (int)sizeof(any_word);
-    if (!is_word || reception_nbytes < (int)sizeof(any_word) || (size_t)payload % sizeof(any_word) != 0)
-        return 0;
-    *(any_word *)payload = *(const any_word *)next_message()->payload;
-    return 1;
+    memcpy(payload, it.payload, (size_t)count);
 }
 
 static __attribute__((noinline)) void move_any(void *payload, int reception_nbytes, const void *place)
@@ -727,7 +879,7 @@ static __attribute__((noinline)) void move_any(void *payload, int reception_nbyt
     if (reception_nbytes < 0 || !keeps_queue(IS_OTHERWISE)) {
         log_move(place);
         __real_bsp_move(payload, reception_nbytes);
-    } else if (queue.next != queue.end) {
+    } else if (has_message()) {
         move_kept(payload, reception_nbytes, place);
     } else if (bsp_choices.is_logged && bsp_part == BSP_WITHIN) {
         log_call((struct logged){.number = LOG_NO_MESSAGE, .place = (unsigned)place});
@@ -736,27 +888,32 @@ static __attribute__((noinline)) void move_any(void *payload, int reception_nbyt
 
 void __wrap_bsp_move(void *payload, int reception_nbytes)
 {
-    if (move_word(payload, reception_nbytes))
-        return;
-    if (here.is_queue_plain) {
+    if (next_word != end_of_words && reception_nbytes >= (int)sizeof *next_word && (size_t)payload % sizeof *next_word == 0) {
+        *(any_word *)payload = *next_word++;
+    } else if (is_queue_plain) {
         __real_bsp_move(payload, reception_nbytes);
-        return;
+    } else if (left_in_machine > 0) {
+        left_in_machine--;
+        __real_bsp_move(payload, reception_nbytes);
+    } else {
+        move_any(payload, reception_nbytes, __builtin_return_address(0));
     }
-    move_any(payload, reception_nbytes, __builtin_return_address(0));
 }
 
 /* In each run the memory of malloc is without these messages, so that its pieces have the same numbers. */
 int __wrap_bsp_hpmove(void **tag_ptr, void **payload_ptr)
 {
-    const struct message *it;
-    if (!keeps_queue(1))
+    struct message it;
+    if (!keeps_queue(1)) {
+        left_in_machine = -1;
         return __real_bsp_hpmove(tag_ptr, payload_ptr);
-    if (queue.next == queue.end)
+    }
+    if (!has_message())
         return -1;
-    it = next_message();
-    *tag_ptr = it->payload - tag_room();
-    *payload_ptr = it->payload;
-    return it->size;
+    it = first_message(1);
+    *tag_ptr = it.payload - tag_room();
+    *payload_ptr = it.payload;
+    return it.size;
 }
 
 extern void __real_bsp_sync(void);
@@ -818,19 +975,10 @@ static void add_block(const unsigned char *at, unsigned size)
     }
 }
 
-/* Whether a whole block at a multiple of its size has nothing but 0. Most of large areas is never used. */
-static inline int is_zero_block(const unsigned char *at)
-{
-    const any_word *it = (const any_word *)at;
-    unsigned found = 0;
-#pragma GCC unroll 16
-    for (unsigned i = 0; i < BLOCK / sizeof *it; i++)
-        found |= it[i];
-    return found == 0;
-}
-
 static int is_zero(const unsigned char *at, unsigned size)
 {
+    for (; size >= sizeof(any_word) && (size_t)at % sizeof(any_word) == 0 && *(const any_word *)at == 0; at += sizeof(any_word))
+        size -= (unsigned)sizeof(any_word);
     while (size > 0 && *at == 0)
         at++, size--;
     return size == 0;
@@ -847,10 +995,14 @@ static void tell_variables(void)
     variables.end = first + (room_of_rank < MOST_RECORDED ? room_of_rank : MOST_RECORDED) / sizeof *first;
     for (it = bsp_choices.cut; it < last; it++) {
         const unsigned char *at = (const unsigned char *)(size_t)it->from, *end = (const unsigned char *)(size_t)it->to;
-        while (at < end) {
+        for (;;) {
             unsigned size = BLOCK - (unsigned)((size_t)at % BLOCK);
+            if (size == BLOCK)
+                at = past_zeros(at, end);
+            if (at >= end)
+                break;
             size = size < (unsigned)(end - at) ? size : (unsigned)(end - at);
-            if (size == BLOCK ? !is_zero_block(at) : !is_zero(at, size))
+            if (!is_zero(at, size))
                 add_block(at, size);
             at += size;
         }
@@ -885,6 +1037,8 @@ void __wrap_bsp_sync(void)
     begin_superstep();
     queue.is_kept = 0;
     queue.next = queue.end;
+    next_word = end_of_words;
+    left_in_machine = -1;
     queue.received_tag = queue.tag;
     queue.tag = queue.next_tag;
     /* GCC goes on there with what belongs to the caller alone. */

@@ -13,6 +13,7 @@ import subprocess
 import sys
 import tempfile
 import time
+from collections.abc import Callable
 
 from . import VERSION, children, files
 from .refusals import Refused, lines_of, show, tell
@@ -137,12 +138,13 @@ class Runs:
                     os.killpg(child.pid, signal.SIGKILL)
         self._pool.shutdown()
 
-    def begin(self, words: list[str]) -> concurrent.futures.Future[subprocess.CompletedProcess[bytes]]:
-        """Begins a run once there is a processor for it."""
+    def begin(self, words: list[str] | Callable[[], list[str]]) -> concurrent.futures.Future[subprocess.CompletedProcess[bytes]]:
+        """Begins a run once there is a processor for it; its words are asked for then, if it is not these that are given."""
         self._begun.append(self._pool.submit(self._run, words))
         return self._begun[-1]
 
-    def _run(self, words: list[str]) -> subprocess.CompletedProcess[bytes]:
+    def _run(self, asked: list[str] | Callable[[], list[str]]) -> subprocess.CompletedProcess[bytes]:
+        words = asked() if callable(asked) else asked
         with tempfile.TemporaryFile() as stdout, tempfile.TemporaryFile() as stderr:
             with children.running(words, stdin=subprocess.DEVNULL, stdout=stdout, stderr=stderr) as child:
                 self._going.add(child)

@@ -26,7 +26,7 @@ from ..run.repeated_output import Repeated
 from ..run.watched_run import Done, Fewer, Interrupted, Stopped, Watch
 
 if TYPE_CHECKING:
-    from ..portable.portability import Builds
+    from ..portable.trial_builds import Builds
 
 # The status of a run that the clock has ended, as that of timeout(1), and the longest that --wall takes.
 WALL, MOST_SECONDS = 124, 10_000_000
@@ -188,13 +188,21 @@ def deliver(job: Job, done: Done) -> int:
         from ..run.closing_messages import tell_of
 
         tell_of(job, found, parser(), is_chosen=chosen is not None, are_offsets_told=is_told, digest=done.digest)
-    # A program may end with a status of its own.
-    options.is_tried = found.outcome == "ended" or found.outcome.endswith("stopped: aborted")
-    options.work = sum(it.costs["w"] for it in found.supersteps)
+    options.is_tried = is_tried(found)
     if options.portable and not options.is_tried:
         tell(["bsprun: not tried: other choices, because the run itself fails"])
     status = done.status if chosen is None else chosen.status
     return status if is_whole else status or REFUSED
+
+
+def is_tried(found: Report) -> bool:
+    """Whether other choices are tried behind a run. A program may end with a status of its own."""
+    return found.outcome == "ended" or found.outcome.endswith("stopped: aborted")
+
+
+def work_of(found: Report) -> int:
+    """The sum of all w."""
+    return sum(it.costs["w"] for it in found.supersteps)
 
 
 def tell_offsets(job: Job, found: Report, seconds: float) -> bool:
@@ -230,12 +238,17 @@ def tell_where(job: Job, begin: str, stopped: Stopped, is_awaited: bool) -> None
     tell([line])
 
 
-def run(job: Job, beside: Beside, folder: pathlib.Path, repeated: Repeated) -> int:
-    """Runs a job, with what goes beside it; the status is that of the emulator, unless the clock or Ctrl-C has ended it."""
+def run(job: Job, beside: Beside, folder: pathlib.Path, repeated: Repeated, builds: Builds | None = None) -> int:
+    """Runs a job, with what goes beside it; the status is that of the emulator, unless the clock or Ctrl-C has ended it. If the program is
+    tried with other choices, these runs begin before anything is told of this one."""
     beside.run(job)
     watch = Watch(job, job.options.wall, beside, repeated)
     try:
         done = watch.run()
+        if builds is not None and done.report is not None and is_tried(done.report):
+            from ..portable.portability import begin_soon
+
+            begin_soon(job, folder, builds, work_of(done.report))
         status = deliver(job, done)
         beside.wait(done.seconds)
         tell(beside.lines())
@@ -244,7 +257,7 @@ def run(job: Job, beside: Beside, folder: pathlib.Path, repeated: Repeated) -> i
         count, nodes = fewer.count, job.options.nodes
         tell([f"bsprun: the program asks for {count} nodes in bsp_begin, so it gets these and not {nodes}"])
         job.give_nodes(count)
-        return run(job, beside, folder, repeated)
+        return run(job, beside, folder, repeated, builds)
     except Wanted as wanted:
         names = [it for name in wanted.names for it in with_others(name)]
         names = [it for it in dict.fromkeys(names) if it not in job.options.found]
@@ -252,7 +265,7 @@ def run(job: Job, beside: Beside, folder: pathlib.Path, repeated: Repeated) -> i
         tell([f"bsprun: the program reads {names[0]}{more}: it runs again with {'these files' if more else 'that file'}, as with --file"])
         job.give(names, folder)
         repeated.again()
-        return run(job, beside, folder, repeated)
+        return run(job, beside, folder, repeated, builds)
     except Interrupted as interrupted:
         children.end_by_signals_again()
         beside.close()
@@ -272,9 +285,9 @@ def portable_builds(options: argparse.Namespace, folder: pathlib.Path) -> contex
     """What builds the program so that it takes choices, if other choices are tried."""
     if not options.portable:
         return contextlib.nullcontext()
-    from ..portable import portability
+    from ..portable.trial_builds import Builds
 
-    return portability.Builds(options, folder)
+    return Builds(options, folder)
 
 
 def main(words: list[str]) -> int:
@@ -302,6 +315,7 @@ def main(words: list[str]) -> int:
             beside.build(asked, content)
             if builds is not None and not content:
                 builds.begin()
+                builds.begin_loading()
 
         job = prepared(options, folder, "bsprun", is_marked=True, beside=begin)
         if options.order is not None:
@@ -311,7 +325,8 @@ def main(words: list[str]) -> int:
         if builds is not None and options.sources:
             # A run has one processor, unless --workers is given.
             builds.begin_valued()
-        status = run(job, beside, folder, Repeated())
+            builds.wait_until_loaded()
+        status = run(job, beside, folder, Repeated(), builds)
         if builds is not None and (status == 0 or getattr(options, "is_tried", False)):
             from ..portable.portability import is_portable
 

@@ -25,8 +25,9 @@ from ..framed.environment_calls import Tracer
 from ..outputs import contested_bytes
 from ..outputs.output_demux import ERROR, OUTPUT, Marks
 from ..outputs.report import Report, part
-from ..portable.portability import TRIES, Builds, verdict
+from ..portable.portability import TRIES, verdict
 from ..portable.portability_findings import told_contested
+from ..portable.trial_builds import Builds
 from ..prepare.job import Job, prepared
 from ..program import elf
 from ..refusals import Refused, counted

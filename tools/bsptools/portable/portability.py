@@ -2,7 +2,6 @@
 
 from __future__ import annotations
 
-import argparse
 import concurrent.futures
 import contextlib
 import functools
@@ -12,13 +11,11 @@ import re
 from collections.abc import Callable, Sequence
 from dataclasses import dataclass, field
 
-from .. import emulator
 from ..files import content_of
 from ..framed.environment_calls import POP, PUSH, SEND, Tracer
 from ..framed.replays import Replays
 from ..limits import MOST_NODES, MOST_PROGRAM
 from ..outputs import contested_bytes, exposed_ranges, output_records
-from ..prepare.compilation import compiled
 from ..prepare.job import Job
 from ..prepare.library_choices import EARLY, LATE, MOST_CUTS, NUMBERED, REVERSED, SHUFFLED, WATCHED, Choices, Cut, Point
 from ..program.code import Code, read_elf
@@ -28,15 +25,13 @@ from .accepted_places import Accepted
 from .call_log import INPUT, NO_MESSAGE, Logged, Superstep
 from .contested_pairs import Pair, pairs
 from .portability_findings import CALLS, QUEUE, Finding, Findings, Other, again, described, parted, told_contested, told_exposed, told_variable
+from .trial_builds import VALUES, Builds, options_for
 from .trial_runs import Ending, NoRoom, Subject, Trials, ending_of, least
 
 TIMES = (Choices(unbuffered=EARLY), Choices(unbuffered=LATE))
 PATTERNS = (0x40, 0xC1)
 # What messages of bsp_hpmove have once the next bsp_sync is over.
 SPOILT = 0x5A
-# GCC gives each variable of a function that has no value these bits, in builds for the second and third run.
-VALUES = ("pattern", "zero")
-MOST_BUILDS = 5
 CHANGED = "the source of an unbuffered call is other at bsp_sync: call "
 # What a program says where there are more nodes than it takes, and one that ends with a status of its own.
 MORE_NODES = b"there are more nodes than the program takes in bsp_begin"
@@ -110,9 +105,9 @@ class FirstRuns:
 class Portable:
     """Looks for what a run rests on."""
 
-    def __init__(self, first: FirstRuns, builds: Builds, ended: Ending, contested: contested_bytes.Found, accepted: Accepted) -> None:
+    def __init__(self, first: FirstRuns, builds: Builds, ended: Ending, contested: contested_bytes.Found) -> None:
         self.first, self.subject, self.builds, self.trials = first, first.subject, builds, first.trials
-        self.ended, self.contested, self.accepted = ended, contested, accepted
+        self.ended, self.contested, self.accepted = ended, contested, Accepted(None, None)
         self.code = self.trials.code.know_names()
         self.variables, self.cuts = final_variables.of_program(self.code), first.cuts
         self.known: dict[Choices, dict[int, bytes]] = {}
@@ -148,11 +143,11 @@ class Portable:
 
     def begin(self) -> None:
         """Begins the runs that depend on nothing but whether the program writes something."""
-        self.trials.begin_all(self.fresh_choices())
-        self.begin_likely_orders()
         if self.subject.options.sources:
             self.builds.begin_valued()
             self.valued = self.builds.pool.submit(self.with_values)
+        self.trials.begin_all(self.fresh_choices())
+        self.begin_likely_orders()
 
     def begin_likely_orders(self) -> None:
         """Begins runs with messages in other orders where these are likely tried, before the calls of the run as it is are known: m counts the
@@ -161,10 +156,18 @@ class Portable:
             self.begin_orders(shuffled_orders(self.subject.options.tries))
 
     def begin_orders(self, tried: list[Choices]) -> None:
-        """Begins runs with messages in these orders, which are the first of those that are tried."""
+        """Begins runs with messages in these orders, which are the first of those that are tried. Those come last of which sums of variables
+        may be wanted: they are not if the first one shows a difference before these begin."""
         if not self.is_silent:
-            self.trials.unsummed.update(it for it in tried[MOST_NOTED:] if it.order != NUMBERED)
-        self.trials.begin_all(tried, self.has(*ASKING))
+            self.trials.unsummed.update(set(tried) - set(noted(tried)))
+        last = noted(tried)[1:] if not self.is_silent else []
+        self.trials.begin_all([*(it for it in tried if it not in last), *last], self.has(*ASKING))
+
+    def settle_notes(self, tried: list[Choices]) -> None:
+        """Looks whether the first of these orders shows a difference in variables, so that nobody asks for sums of the others."""
+        first, *others = noted(tried)
+        if others and not self.is_silent and self.trials.run(first) == self.ended and self.difference(first) is not None:
+            self.trials.unsummed.update(others)
 
     def fresh_choices(self) -> list[Choices]:
         """The runs with other bytes in fresh memory. Where a run is told by what it writes alone, one of them has also all else that seldom
@@ -285,7 +288,6 @@ class Portable:
         contested = self.contested
         what = counted(contested.places, "place") if contested.places else "nothing"
         self.verdict.exact.append(f"puts and gets: {what} contested in {counted(self.ended.last + 1, 'superstep')} (exact)")
-        self.begin()
         base = self.base()
         if base != self.ended:
             difference = parted(self.ended, base)
@@ -318,7 +320,7 @@ class Portable:
             self.trials.begin_all([Choices(unbuffered=WATCHED), *TIMES])
             if "bsp_ranges" not in self.code.names and self.subject.options.sources:
                 with contextlib.suppress(Refused):
-                    self.looking, _ = self.builds.get(self.subject, self.trials.ticks, *LOOKING)
+                    self.looking, _ = trials_of(self.builds, self.subject, self.trials.ticks, *LOOKING)
                     self.looking.begin_all([Choices()], logged=[Choices()])
 
     def tried(self, what: str, look: Callable[[], None]) -> None:
@@ -440,6 +442,9 @@ class Portable:
         if not tried:
             self.verdict.exact.append("messages: no two come to one rank in a superstep (exact)")
         asks = self.has(*ASKING)
+        if tried:
+            self.begin_orders(tried)
+            self.settle_notes(tried)
         self.trials.run_all(tried, asks)
         for choices in tried:
             if (other := self.other(choices, self.is_silent)) is not None:
@@ -447,7 +452,7 @@ class Portable:
                 break
         else:
             self.verdict.tried += [name] if tried else []
-            self.note_variables(*tried[:MOST_NOTED], *(it for it in tried[MOST_NOTED:] if it.order == NUMBERED))
+            self.note_variables(*noted(tried))
             self.note_sums(tried)
         if asks:
             self.contested_in(tried)
@@ -598,7 +603,7 @@ class Portable:
 
     def with_values(self) -> list[tuple[Trials, list[str]]]:
         """Builds in which GCC gives variables of functions values, with what was said of them, whose runs are begun."""
-        made = [self.builds.get(self.subject, self.trials.ticks, *options_for(it)) for it in VALUES]
+        made = [trials_of(self.builds, self.subject, self.trials.ticks, *options_for(it)) for it in VALUES]
         for trials, _ in made:
             trials.begin_all([Choices()])
         return made
@@ -622,52 +627,16 @@ def shuffled_orders(tries: int) -> list[Choices]:
     return [Choices(order=REVERSED), *(Choices(order=SHUFFLED, seed=it) for it in range(1, tries))]
 
 
-def options_for(value: str) -> list[str]:
-    """The options of a build in which GCC gives variables of functions these values."""
-    return ["-Wuninitialized", "-Wmaybe-uninitialized", f"-ftrivial-auto-var-init={value}"]
+def noted(tried: list[Choices]) -> list[Choices]:
+    """The orders of which the variables are looked at, of these."""
+    return [*tried[:MOST_NOTED], *(it for it in tried[MOST_NOTED:] if it.order == NUMBERED)]
 
 
-class Builds:
-    """Builds of a program in C, which are made beside one another and beside runs."""
-
-    def __init__(self, options: argparse.Namespace, folder: pathlib.Path) -> None:
-        self.options, self.folder, self.pool = options, folder, concurrent.futures.ThreadPoolExecutor(MOST_BUILDS)
-        self.made: dict[tuple[str, ...], concurrent.futures.Future[tuple[bytes, list[str]]]] = {}
-
-    def __enter__(self) -> Builds:
-        return self
-
-    def __exit__(self, *_: object) -> None:
-        for it in self.made.values():
-            it.cancel()
-        self.pool.shutdown()
-
-    def begin(self, *options: str) -> concurrent.futures.Future[tuple[bytes, list[str]]]:
-        """Begins a build with these options."""
-        if options not in self.made:
-            target = self.folder / f"portable{len(self.made)}.elf"
-            self.made[options] = self.pool.submit(self._build, target, options)
-        return self.made[options]
-
-    def begin_valued(self) -> None:
-        """Begins the builds in which GCC gives variables of functions values, unless they were begun."""
-        for value in VALUES:
-            self.begin(*options_for(value))
-
-    def get(self, subject: Subject, ticks: int, *options: str) -> tuple[Trials, list[str]]:
-        """A build that takes choices, and what was said of it. If there is none of the sources as they are, that is told."""
-        try:
-            content, said = self.begin(*options).result()
-        except Refused:
-            if not options:
-                compiled(self.options, self.folder / "portable.elf", "--portable")
-            raise
-        content = with_records(content, subject.mark)
-        return Trials(subject, content, read_elf(content), ticks), said
-
-    def _build(self, target: pathlib.Path, options: tuple[str, ...]) -> tuple[bytes, list[str]]:
-        said = compiled(self.options, target, "--portable", *options, is_told=False)
-        return content_of(target, MOST_PROGRAM), said
+def trials_of(builds: Builds, subject: Subject, ticks: int, *options: str) -> tuple[Trials, list[str]]:
+    """Runs of a build that takes choices, and what was said of it. If there is none of the sources as they are, that is told."""
+    content, said = builds.built(*options)
+    content = with_records(content, subject.mark)
+    return Trials(subject, content, read_elf(content), ticks), said
 
 
 def with_records(content: bytes, mark: bytes) -> bytes:
@@ -675,33 +644,57 @@ def with_records(content: bytes, mark: bytes) -> bytes:
     return output_records.settings_in(content, output_records.RECORDS | output_records.WRITES_FILES, 0, mark) if mark else content
 
 
-def verdict(job: Job, folder: pathlib.Path, builds: Builds, accepted: Accepted | None = None) -> Verdict | None:
-    """Tries a program whose run as a job has ended well, and answers what was found and what was tried; nothing where it does not end well by
-    itself. Pairs of lines that are found are noted among those that are accepted."""
+def begin(job: Job, folder: pathlib.Path, builds: Builds, work: int = 0) -> None:
+    """Begins the first runs of a program, which has made so many instructions in a run if that is known. What comes of these begins others."""
     options, mark = job.options, job.mark if job.options.out is not None else b""
     content = with_records(content_of(folder / "program.elf" if options.sources else options.program, MOST_PROGRAM), mark)
     image = folder / "plain.elf"
     image.write_bytes(content)
-    with emulator.Runs() as runs:
-        subject = Subject(options, job.program, read_elf(content), [str(image), *job.settings[1:]], folder, mark, runs)
-        if options.sources:
-            builds.begin()
-        show("bsprun: looking for contested bytes")
-        file = folder / "contested.csv"
-        plain = subject.begin(file)
-        # A run that was made before has told how many instructions it has.
-        work = getattr(options, "work", 0) or ending_of(plain.result(), mark).ticks
-        trials = builds.get(subject, work)[0] if options.sources else Trials(subject, content, subject.code, work)
-        first = FirstRuns(subject, trials)
+    subject = Subject(options, job.program, read_elf(content), [str(image), *job.settings[1:]], folder, mark, builds.runs)
+    if options.sources:
+        builds.begin()
+    file = folder / "contested.csv"
+    plain = subject.begin(file)
+    work = work or ending_of(plain.result(), mark).ticks
+    trials = trials_of(builds, subject, work)[0] if options.sources else Trials(subject, content, subject.code, work)
+    first = FirstRuns(subject, trials)
+
+    def go_on() -> Portable | None:
+        """Begins the others, of a program that ends well by itself."""
         ended = ending_of(plain.result(), mark)
         if ended.outcome != "ended" and OWN_STATUS not in ended.output:
             return None
         # Of these the first is told at most. Where there is one, the build that takes choices tells all of them.
         contested = contested_bytes.read(file, trials.nodes, ended.last, most=1)
-        portable = Portable(first, builds, ended, contested, accepted or Accepted(None, None))
-        portable.look()
-        show("")
-        return portable.verdict
+        portable = Portable(first, builds, ended, contested)
+        portable.begin()
+        return portable
+
+    builds.begun = builds.pool.submit(go_on)
+
+
+def begin_soon(job: Job, folder: pathlib.Path, builds: Builds, work: int) -> None:
+    """The same before anything is told of the run as it is. If it cannot be, nothing is begun, and the verdict tells why."""
+    if not job.options.sources or builds.is_built():
+        with contextlib.suppress(Refused, OSError):
+            begin(job, folder, builds, work)
+
+
+def verdict(job: Job, folder: pathlib.Path, builds: Builds, accepted: Accepted | None = None) -> Verdict | None:
+    """Tries a program whose run as a job has ended well, and answers what was found and what was tried; nothing where it does not end well by
+    itself. Pairs of lines that are found are noted among those that are accepted."""
+    show("bsprun: looking for contested bytes")
+    if builds.begun is None:
+        begin(job, folder, builds)
+    assert builds.begun is not None
+    portable = builds.begun.result()
+    if portable is None:
+        return None
+    portable.accepted = accepted or portable.accepted
+    portable.look()
+    show("")
+    found: Verdict = portable.verdict
+    return found
 
 
 def is_portable(job: Job, folder: pathlib.Path, builds: Builds, accepted: Accepted) -> bool:

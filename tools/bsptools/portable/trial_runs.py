@@ -4,6 +4,7 @@ from __future__ import annotations
 
 import argparse
 import concurrent.futures
+import functools
 import itertools
 import pathlib
 import subprocess
@@ -217,7 +218,8 @@ class Trials:
             if it in self.roomless or not self.lacks(it, is_contested, is_logged):
                 continue
             file = self.subject.folder / f"contested{next(IMAGES)}.csv" if is_contested else None
-            run = self.subject.runs.begin(self.command(it._replace(is_logged=is_logged), file))
+            # The image is made once there is a processor for the run: whether sums are wanted may be known by then.
+            run = self.subject.runs.begin(functools.partial(self.command, it._replace(is_logged=is_logged), file))
             self.begun.setdefault(it, []).append(Begun(run, file, is_logged))
 
     def end(self, choices: Choices) -> None:

@@ -3,6 +3,7 @@
 from __future__ import annotations
 
 import contextlib
+import importlib
 import io
 import posixpath
 import re
@@ -115,6 +116,12 @@ def symbols(content: bytes) -> dict[str, int]:
             known = [(at, it) for at, it in places if b"\0" in text[at : at + MOST_NAME]]
             return {text[at : text.index(b"\0", at)].decode(errors="replace"): it for at, it in known}
     return {}
+
+
+def load() -> None:
+    """Loads pyelftools, if it is here."""
+    if not borrow(ELFTOOLS):
+        importlib.import_module("elftools.elf.elffile")
 
 
 class Debug:

@@ -1,0 +1,100 @@
+"""Builds of a program in C for `--portable`, which are made beside one another and beside runs.
+
+It takes little time to load this module. The modules that tell the verdict are loaded while the program is compiled.
+"""
+
+from __future__ import annotations
+
+import argparse
+import concurrent.futures
+import contextlib
+import importlib
+import pathlib
+from typing import TYPE_CHECKING
+
+from .. import emulator
+from ..files import content_of
+from ..limits import MOST_PROGRAM
+from ..prepare.compilation import compiled
+from ..refusals import Refused
+
+if TYPE_CHECKING:
+    from .portability import Portable
+
+# GCC gives each variable of a function that has no value these bits, in builds for the second and third run.
+VALUES = ("pattern", "zero")
+# How many builds there are, and what goes beside them: what loads modules, and what waits for a run.
+MOST_BUILDS, MOST_BESIDE = 5, 2
+
+
+def options_for(value: str) -> list[str]:
+    """The options of a build in which GCC gives variables of functions these values."""
+    return ["-Wuninitialized", "-Wmaybe-uninitialized", f"-ftrivial-auto-var-init={value}"]
+
+
+def load() -> None:
+    """Loads what the verdict takes."""
+    importlib.import_module(".portability", __package__)
+    elf = importlib.import_module("..program.elf", __package__)
+    # Without the package less is told.
+    with contextlib.suppress(Exception):
+        elf.load()
+
+
+class Builds:
+    """Builds of a program in C, what makes runs of them, and what was begun of these runs."""
+
+    def __init__(self, options: argparse.Namespace, folder: pathlib.Path) -> None:
+        self.options, self.folder = options, folder
+        self.pool = concurrent.futures.ThreadPoolExecutor(MOST_BUILDS + MOST_BESIDE)
+        self.runs = emulator.Runs()
+        self.made: dict[tuple[str, ...], concurrent.futures.Future[tuple[bytes, list[str]]]] = {}
+        self.loaded: concurrent.futures.Future[None] | None = None
+        self.begun: concurrent.futures.Future[Portable | None] | None = None
+
+    def __enter__(self) -> Builds:
+        return self
+
+    def __exit__(self, *_: object) -> None:
+        for it in self.made.values():
+            it.cancel()
+        self.runs.__exit__()
+        self.pool.shutdown()
+
+    def begin_loading(self) -> None:
+        """Begins to load what the verdict takes."""
+        self.loaded = self.pool.submit(load)
+
+    def wait_until_loaded(self) -> None:
+        """Waits for that. Until then no other thread loads the same packages."""
+        if self.loaded is not None:
+            self.loaded.result()
+
+    def begin(self, *options: str) -> concurrent.futures.Future[tuple[bytes, list[str]]]:
+        """Begins a build with these options, unless it was begun."""
+        if options not in self.made:
+            target = self.folder / f"portable{len(self.made)}.elf"
+            self.made[options] = self.pool.submit(self._build, target, options)
+        return self.made[options]
+
+    def begin_valued(self) -> None:
+        """Begins the builds in which GCC gives variables of functions values."""
+        for value in VALUES:
+            self.begin(*options_for(value))
+
+    def is_built(self) -> bool:
+        """Waits for the build without further options, and answers whether there is one."""
+        return self.begin().exception() is None
+
+    def built(self, *options: str) -> tuple[bytes, list[str]]:
+        """The image of a build that takes choices, and what was said of it. If there is none of the sources as they are, that is told."""
+        try:
+            return self.begin(*options).result()
+        except Refused:
+            if not options:
+                compiled(self.options, self.folder / "portable.elf", "--portable")
+            raise
+
+    def _build(self, target: pathlib.Path, options: tuple[str, ...]) -> tuple[bytes, list[str]]:
+        said = compiled(self.options, target, "--portable", *options, is_told=False)
+        return content_of(target, MOST_PROGRAM), said

@@ -272,7 +272,7 @@ extern char __bss_start[];
 
 static char *first_zero(void)
 {
-    return __preinit_array_start == __init_array_end ? __bss_start : (char *)(size_t)-1;
+    return &__preinit_array_start[0] == &__init_array_end[0] ? __bss_start : (char *)(size_t)-1;
 }
 
 /* What of some variables is kept ends here. */

@@ -290,6 +290,16 @@ def portable_builds(options: argparse.Namespace, folder: pathlib.Path) -> contex
     return Builds(options, folder)
 
 
+def load_verdict() -> None:
+    """Loads what the verdict takes. It takes a while, and so goes beside the compiler."""
+    from ..portable import portability  # noqa: F401
+    from ..program import elf
+
+    # Without the package less is told.
+    with contextlib.suppress(Exception):
+        elf.load()
+
+
 def main(words: list[str]) -> int:
     """Runs a program; the status is the emulator's, or says what ended it."""
     options = arguments(words)
@@ -315,7 +325,7 @@ def main(words: list[str]) -> int:
             beside.build(asked, content)
             if builds is not None and not content:
                 builds.begin()
-                builds.begin_loading()
+                builds.begin_loading(load_verdict)
 
         job = prepared(options, folder, "bsprun", is_marked=True, beside=begin)
         if options.order is not None:

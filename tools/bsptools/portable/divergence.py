@@ -16,7 +16,10 @@ from .trial_runs import Stop, stops
 
 TRACED = (*REQUESTS, WRITE, SYNC)
 # Functions of bsplib/ with environment calls that ask and change nothing.
-ASKING = ("bsp_start", "bsp_begin", "bsp_nprocs", "bsp_pid", "bsp_input_read", "bsp_stdio_get", "bsp_qsize", "bsp_get_tag", "bsp_move")
+ASKING = (
+    "bsp_start", "bsp_begin", "bsp_nprocs", "bsp_pid", "bsp_input_read", "bsp_stdio_get", "bsp_qsize", "bsp_get_tag", "bsp_move",
+    "keep_queue", "keep_words", "log_move",
+)  # fmt: skip
 # How many calls of a run are compared.
 MOST_CALLS = 20_000
 MOST_POINTS = 1000

@@ -10,7 +10,6 @@ import pathlib
 import re
 from collections.abc import Callable, Sequence
 from dataclasses import dataclass, field
-
 from ..files import content_of
 from ..framed.environment_calls import POP, PUSH, SEND, Tracer
 from ..framed.replays import Replays
@@ -102,6 +101,23 @@ class FirstRuns:
         self.on_other_nodes = [(it, subject.runs.begin(subject.command(it, trials.limit))) for it in nodes]
 
 
+@dataclass
+class Looks:
+    """A run of a build that looks at accesses to ranges of bytes, if there is such a build."""
+
+    trials: Trials | None
+    choices: Choices
+
+    @functools.cached_property
+    def found(self) -> list[exposed_accesses.Access]:
+        """What it has found, once it is over."""
+        return exposed_accesses.accesses(self.trials.log(self.choices)) if self.trials is not None and self.choices.ranges else []
+
+    def has_found(self) -> bool:
+        """Whether it is over and has found something."""
+        return self.trials is not None and self.trials.is_over(self.choices) and bool(self.found)
+
+
 class Portable:
     """Looks for what a run rests on."""
 
@@ -113,7 +129,7 @@ class Portable:
         self.known: dict[Choices, dict[int, bytes]] = {}
         self.told_pairs: set[tuple[int, ...]] = set()
         # Builds that look at accesses, and in which variables of functions have values.
-        self.looking: Trials | None = None
+        self.looking: concurrent.futures.Future[Trials | None] | None = None
         self.valued: concurrent.futures.Future[list[tuple[Trials, list[str]]]] | None = None
         # Whether something of what seldom counts does, so that each part of it is looked for by itself.
         self.is_rare = True
@@ -146,6 +162,8 @@ class Portable:
         if self.subject.options.sources:
             self.builds.begin_valued()
             self.valued = self.builds.pool.submit(self.with_values)
+            if self.trials.room and self.has(*CALLS) and "bsp_ranges" not in self.code.names:
+                self.looking = self.builds.pool.submit(self.with_looks)
         self.trials.begin_all(self.fresh_choices())
         self.begin_likely_orders()
 
@@ -318,10 +336,6 @@ class Portable:
             self.begin_orders(self.orders()[0])
         if self.trials.room and any(it.has_unbuffered for it in self.log) and self.has(*CALLS):
             self.trials.begin_all([Choices(unbuffered=WATCHED), *TIMES])
-            if "bsp_ranges" not in self.code.names and self.subject.options.sources:
-                with contextlib.suppress(Refused):
-                    self.looking, _ = trials_of(self.builds, self.subject, self.trials.ticks, *LOOKING)
-                    self.looking.begin_all([Choices()], logged=[Choices()])
 
     def tried(self, what: str, look: Callable[[], None]) -> None:
         """Looks for something where there is room for what is kept."""
@@ -497,9 +511,10 @@ class Portable:
         if not self.has(*CALLS) or not any(it.has_unbuffered for it in self.log):
             return
         watched, *_ = self.trials.run_all([Choices(unbuffered=WATCHED), *TIMES])
-        if self.accesses():
+        looks = self.begin_accesses()
+        touched = unbuffered_races.races(self.findings().trace, self.log, lambda: not looks.has_found())
+        if self.accesses(looks):
             return
-        touched = unbuffered_races.races(self.findings().trace, self.log)
         other = self.at_other_times() if touched else None
         for race in touched[:MOST_PAIRS]:
             self.find(self.findings().touched(race, other))
@@ -525,20 +540,38 @@ class Portable:
         if not self.subject.options.sources:
             self.leave_out(f"not tried: {ACCESSES}, which takes bspcc --portable=accesses")
             return None
-        if self.looking is None:
+        looking = self.looking.result() if self.looking is not None else None
+        if looking is None:
             self.leave_out(f"not tried: {ACCESSES}, for which the program was not compiled")
-        return self.looking
+        return looking
 
-    def accesses(self) -> bool:
-        """What ranks read and write themselves where an unbuffered call has the same bytes. Answers whether that was found."""
+    def with_looks(self) -> Trials | None:
+        """The build that looks at accesses, whose run is begun; nothing if the program cannot be built so."""
+        with contextlib.suppress(Refused):
+            looking, _ = trials_of(self.builds, self.subject, self.trials.ticks, *LOOKING)
+            looking.begin_all([Choices()], logged=[Choices()])
+            return looking
+        return None
+
+    def begin_accesses(self) -> Looks:
+        """Begins the run that tells what ranks read and write themselves where an unbuffered call has the same bytes."""
         show("bsprun: looking at accesses to bytes of unbuffered calls")
         trials = self.looking_build()
         if trials is None:
-            return False
+            return Looks(None, Choices())
         ranges, left_out = exposed_accesses.ranges(self.log if trials is self.trials else trials.log(Choices()))
         if left_out is not None:
             self.leave_out(f"not tried: {ACCESSES} from superstep {left_out} on, since these have too many bytes apart")
-        found = exposed_accesses.accesses(trials.log(Choices(ranges=tuple(ranges)))) if ranges else []
+        choices = Choices(ranges=tuple(ranges))
+        if ranges:
+            trials.begin_all([choices], logged=[choices])
+        return Looks(trials, choices)
+
+    def accesses(self, looks: Looks) -> bool:
+        """What ranks read and write themselves where an unbuffered call has the same bytes. Answers whether that was found."""
+        found, trials = looks.found, looks.trials
+        if trials is None:
+            return False
         other = self.at_other_times() if found else None
         findings = Findings(trials, Tracer(trials.code.know_names(), trials.replays(Choices())))
         for it in found[:MOST_PAIRS]:
@@ -687,14 +720,13 @@ def verdict(job: Job, folder: pathlib.Path, builds: Builds, accepted: Accepted |
     if builds.begun is None:
         begin(job, folder, builds)
     assert builds.begun is not None
-    portable = builds.begun.result()
+    portable: Portable | None = builds.begun.result()
     if portable is None:
         return None
     portable.accepted = accepted or portable.accepted
     portable.look()
     show("")
-    found: Verdict = portable.verdict
-    return found
+    return portable.verdict
 
 
 def is_portable(job: Job, folder: pathlib.Path, builds: Builds, accepted: Accepted) -> bool:

@@ -1,16 +1,15 @@
 """Builds of a program in C for `--portable`, which are made beside one another and beside runs.
 
-It takes little time to load this module. The modules that tell the verdict are loaded while the program is compiled.
+It takes little time to load this module, so that the builds begin soon.
 """
 
 from __future__ import annotations
 
 import argparse
 import concurrent.futures
-import contextlib
-import importlib
 import pathlib
-from typing import TYPE_CHECKING
+from collections.abc import Callable
+from typing import Any
 
 from .. import emulator
 from ..files import content_of
@@ -18,27 +17,15 @@ from ..limits import MOST_PROGRAM
 from ..prepare.compilation import compiled
 from ..refusals import Refused
 
-if TYPE_CHECKING:
-    from .portability import Portable
-
 # GCC gives each variable of a function that has no value these bits, in builds for the second and third run.
 VALUES = ("pattern", "zero")
-# How many builds there are, and what goes beside them: what loads modules, and what waits for a run.
-MOST_BUILDS, MOST_BESIDE = 5, 2
+# How many builds there are, and what goes beside them: what loads modules, what waits for a run, and what makes runs of two kinds of builds.
+MOST_BUILDS, MOST_BESIDE = 4, 4
 
 
 def options_for(value: str) -> list[str]:
     """The options of a build in which GCC gives variables of functions these values."""
     return ["-Wuninitialized", "-Wmaybe-uninitialized", f"-ftrivial-auto-var-init={value}"]
-
-
-def load() -> None:
-    """Loads what the verdict takes."""
-    importlib.import_module(".portability", __package__)
-    elf = importlib.import_module("..program.elf", __package__)
-    # Without the package less is told.
-    with contextlib.suppress(Exception):
-        elf.load()
 
 
 class Builds:
@@ -50,7 +37,8 @@ class Builds:
         self.runs = emulator.Runs()
         self.made: dict[tuple[str, ...], concurrent.futures.Future[tuple[bytes, list[str]]]] = {}
         self.loaded: concurrent.futures.Future[None] | None = None
-        self.begun: concurrent.futures.Future[Portable | None] | None = None
+        # What looks for what the program rests on, or nothing if the program does not end well by itself.
+        self.begun: concurrent.futures.Future[Any] | None = None
 
     def __enter__(self) -> Builds:
         return self
@@ -61,8 +49,8 @@ class Builds:
         self.runs.__exit__()
         self.pool.shutdown()
 
-    def begin_loading(self) -> None:
-        """Begins to load what the verdict takes."""
+    def begin_loading(self, load: Callable[[], None]) -> None:
+        """Begins to load what the verdict takes, beside the builds."""
         self.loaded = self.pool.submit(load)
 
     def wait_until_loaded(self) -> None:

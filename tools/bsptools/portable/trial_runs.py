@@ -222,6 +222,10 @@ class Trials:
             run = self.subject.runs.begin(functools.partial(self.command, it._replace(is_logged=is_logged), file))
             self.begun.setdefault(it, []).append(Begun(run, file, is_logged))
 
+    def is_over(self, choices: Choices) -> bool:
+        """Whether a run that was begun is over."""
+        return all(it.run.done() for it in self.begun.get(choices, ()))
+
     def end(self, choices: Choices) -> None:
         """Waits for a run that was begun."""
         for run, file, is_logged in self.begun.pop(choices, ()):

@@ -8,7 +8,7 @@ from __future__ import annotations
 
 import bisect
 import collections
-from collections.abc import Iterator
+from collections.abc import Callable, Iterator
 from typing import Deque, Dict, List, NamedTuple, Sequence, Tuple
 
 from ..framed.environment_calls import HPGET, HPPUT, REQUESTS, Tracer
@@ -66,8 +66,8 @@ def content_of(told: bytes) -> bytes:
     return bytes_of(told.decode().split())
 
 
-def races(trace: Tracer, steps: Sequence[Superstep]) -> List[Race]:
-    """The first such call of each place in the code."""
+def races(trace: Tracer, steps: Sequence[Superstep], are_wanted: Callable[[], bool] = lambda: True) -> List[Race]:
+    """The first such call of each place in the code. Before each superstep it is asked whether they are still wanted."""
     found: Dict[int, Race] = {}
     left = collections.deque(it for superstep, step in enumerate(steps) if step.has_unbuffered for it in asked_in(superstep, step))
     while left:
@@ -75,6 +75,8 @@ def races(trace: Tracer, steps: Sequence[Superstep]) -> List[Race]:
         with trace.replays.session() as session:
             session.ask_all(trace.replays.begin(here))
             for asked in taken(left, session):
+                if not are_wanted():
+                    return []
                 session.ask_all(["phase", "turn"] * (asked.superstep - here))
                 here = asked.superstep
                 for it in races_in(trace, session, asked, steps[here]):

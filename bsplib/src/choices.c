@@ -765,6 +765,7 @@ static __attribute__((noinline)) void keep_queue(void)
     queue.is_kept = 1;
     queue.bytes = 0;
     is_queue_plain = 0;
+    left_in_machine = -1;
     if (queue.received_tag == 0 && bsp_access == NULL && (size_t)bytes == (size_t)messages * sizeof *first_word) {
         first_word = (any_word *)take_room((size_t)bytes, 0);
         words = keep_words(first_word, messages);

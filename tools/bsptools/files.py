@@ -10,7 +10,7 @@ from collections.abc import Iterable, Iterator
 from typing import IO, NamedTuple
 
 from . import own_folders
-from .refusals import Refused, Unfit, about
+from .refusals import LONE, Refused, Unfit, about
 
 # So many links Linux follows, one after another.
 MOST_LINKS = 40
@@ -186,7 +186,7 @@ def put(path: str | os.PathLike[str], content: bytes | str, mode: int = OWN_MODE
     with about(path):
         try:
             with open(beside, "xb", opener=lambda name, flags: os.open(name, flags, mode)) as file:
-                file.write(content.encode(errors="surrogateescape") if isinstance(content, str) else content)
+                file.write(content.encode(errors=LONE) if isinstance(content, str) else content)
             os.replace(beside, path)
         finally:
             with contextlib.suppress(OSError):
@@ -196,7 +196,7 @@ def put(path: str | os.PathLike[str], content: bytes | str, mode: int = OWN_MODE
 def write(path: str | os.PathLike[str], content: str | bytes) -> None:
     """Writes a whole file."""
     with replaced(path) as written, about(path), open(written, "wb") as file:
-        file.write(content.encode(errors="surrogateescape") if isinstance(content, str) else content)
+        file.write(content.encode(errors=LONE) if isinstance(content, str) else content)
 
 
 def exchange(new: str | os.PathLike[str], old: str | os.PathLike[str]) -> None:

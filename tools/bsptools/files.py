@@ -18,6 +18,8 @@ MOST_LINKS = 40
 OWN_MODE = 0o644
 # renameat2(2): paths are from the current folder on, and two names are exchanged.
 AT_FDCWD, RENAME_EXCHANGE = -100, 2
+# The device of /dev/tty, and the first major number of terminals in windows.
+OWN_TERMINAL, FIRST_PTS = os.makedev(5, 0), 136
 GONE = "the current folder no longer exists"
 
 
@@ -141,7 +143,19 @@ def _name_elsewhere(path: str) -> str:
         if not os.path.exists(target):
             break
         path = target
+    if os.stat(path).st_rdev == OWN_TERMINAL and stat.S_ISCHR(os.stat(path).st_mode):
+        return _terminal() or path
     return os.path.join(os.path.realpath(os.path.dirname(path)), os.path.basename(path))
+
+
+def _terminal() -> str:
+    """The name by which a process of another session opens this one's terminal, for which /dev/tty stands; nothing if it has none."""
+    with contextlib.suppress(OSError, ValueError, IndexError), open("/proc/self/stat", encoding="ascii", errors="replace") as file:
+        number = int(file.read().rpartition(")")[2].split()[4])
+        major, minor = os.major(number), os.minor(number)
+        names = (f"/dev/pts/{(major - FIRST_PTS) * 256 + minor}", f"/dev/tty{minor}", f"/dev/ttyS{minor - 64}", "/dev/console")
+        return next((it for it in names if os.path.exists(it) and os.stat(it).st_rdev == number), "")
+    return ""
 
 
 def _expect_same(number: int, beside: str, path: str | os.PathLike[str]) -> None:

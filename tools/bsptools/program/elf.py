@@ -102,10 +102,10 @@ def linked(content: bytes) -> list[bytes]:
         (start,) = struct.unpack_from("<I", content, 32)
         size, count, of_names = struct.unpack_from("<HHH", content, 46)
         first = struct.unpack_from("<10I", content, start)
-        # What is too much for the header is in the first section.
+        # What is too much for the header is in the first section. gdb takes no headers of another size.
         count, of_names = count or first[5], first[6] if of_names == MANY else of_names
         (texts,) = struct.unpack_from("<I", content, start + of_names * size + 16)
-        for at in range(min(count, len(content) // max(size, 1))):
+        for at in range(min(count, len(content) // size) if size == SECTION_BYTES else 0):
             name, _, _, _, offset, length = struct.unpack_from("<6I", content, start + at * size)
             if content.startswith(LINKS, texts + name):
                 found.append(content[offset : offset + min(length, MOST_NAME)].partition(b"\0")[0])

@@ -10,7 +10,7 @@ from collections.abc import Iterable, Iterator
 from typing import IO, NamedTuple
 
 from . import own_folders
-from .refusals import Refused, Unfit, about
+from .refusals import LONE, Refused, Unfit, about
 
 # So many links Linux follows, one after another.
 MOST_LINKS = 40
@@ -18,6 +18,8 @@ MOST_LINKS = 40
 OWN_MODE = 0o644
 # renameat2(2): paths are from the current folder on, and two names are exchanged.
 AT_FDCWD, RENAME_EXCHANGE = -100, 2
+# The device of /dev/tty, and the first major number of terminals in windows.
+OWN_TERMINAL, FIRST_PTS = os.makedev(5, 0), 136
 GONE = "the current folder no longer exists"
 
 
@@ -141,7 +143,19 @@ def _name_elsewhere(path: str) -> str:
         if not os.path.exists(target):
             break
         path = target
+    if os.stat(path).st_rdev == OWN_TERMINAL and stat.S_ISCHR(os.stat(path).st_mode):
+        return _terminal() or path
     return os.path.join(os.path.realpath(os.path.dirname(path)), os.path.basename(path))
+
+
+def _terminal() -> str:
+    """The name by which a process of another session opens this one's terminal, for which /dev/tty stands; nothing if it has none."""
+    with contextlib.suppress(OSError, ValueError, IndexError), open("/proc/self/stat", encoding="ascii", errors="replace") as file:
+        number = int(file.read().rpartition(")")[2].split()[4])
+        major, minor = os.major(number), os.minor(number)
+        names = (f"/dev/pts/{(major - FIRST_PTS) * 256 + minor}", f"/dev/tty{minor}", f"/dev/ttyS{minor - 64}", "/dev/console")
+        return next((it for it in names if os.path.exists(it) and os.stat(it).st_rdev == number), "")
+    return ""
 
 
 def _expect_same(number: int, beside: str, path: str | os.PathLike[str]) -> None:
@@ -186,7 +200,7 @@ def put(path: str | os.PathLike[str], content: bytes | str, mode: int = OWN_MODE
     with about(path):
         try:
             with open(beside, "xb", opener=lambda name, flags: os.open(name, flags, mode)) as file:
-                file.write(content.encode(errors="surrogateescape") if isinstance(content, str) else content)
+                file.write(content.encode(errors=LONE) if isinstance(content, str) else content)
             os.replace(beside, path)
         finally:
             with contextlib.suppress(OSError):
@@ -196,7 +210,7 @@ def put(path: str | os.PathLike[str], content: bytes | str, mode: int = OWN_MODE
 def write(path: str | os.PathLike[str], content: str | bytes) -> None:
     """Writes a whole file."""
     with replaced(path) as written, about(path), open(written, "wb") as file:
-        file.write(content.encode(errors="surrogateescape") if isinstance(content, str) else content)
+        file.write(content.encode(errors=LONE) if isinstance(content, str) else content)
 
 
 def exchange(new: str | os.PathLike[str], old: str | os.PathLike[str]) -> None:

@@ -16,11 +16,13 @@ import stat
 from collections.abc import Iterable, Iterator
 from typing import IO
 
-from . import children, own_folders
+from . import children, files, own_folders
 from .refusals import Refused
 
 # What a new file is called, beside its place, until all are there.
 FRONT, NEW = ".", ".bspemu-new"
+# The bytes of a record, and the folders of a name in it. An installation has some 40,000 bytes, and 8 folders.
+MOST_RECORD, MOST_FOLDERS = 1 << 20, 64
 FOLDER_MODE, PROGRAM_MODE, FILE_MODE = 0o755, 0o755, 0o644
 
 
@@ -45,7 +47,7 @@ class Tree:
         for record in (self.record, self.journal):
             if (self.root / record).is_file():
                 self._expect_below([record])
-                names += (self.root / record).read_text(encoding="utf-8", errors="surrogateescape").splitlines()
+                names += files.named_content(self.root / record, MOST_RECORD).decode(errors="surrogateescape").splitlines()
         self._expect_below(names)
         return list(dict.fromkeys(names))
 
@@ -53,27 +55,32 @@ class Tree:
         """Refuses names that lead out of the prefix, by themselves or by a link on the way. Folders above it may be named."""
         top = os.path.realpath(self.root)
         known: dict[str, bool] = {}
+        own: set[str] = set()
         for name in names:
             folder, _, last = name.rstrip("/").rpartition("/")
             words = {*folder.split("/"), last}
             if name.endswith("/") and words <= {"", ".", ".."} and not name.startswith("/"):
                 continue
+            if name.count("/") > MOST_FOLDERS:
+                raise Refused(f"{self.root / self.record} names a file in more than {MOST_FOLDERS} folders: remove the line of {name[:40]}..")
             is_below = not name.startswith("/") and ".." not in words and last not in ("", ".") and "\0" not in name
             if not is_below:
                 raise Refused(f"{self.root / self.record} names {name}, which is not below {self.root}: remove that line")
             if folder not in known:
-                self._expect_own(folder)
+                self._expect_own(folder, own)
                 known[folder] = os.path.commonpath([top, os.path.realpath(self.root / folder)]) == top
             if not known[folder]:
                 raise Refused(f"{self.root / folder} leads out of {self.root} by a link: put a folder there, or name another prefix")
 
-    def _expect_own(self, folder: str) -> None:
+    def _expect_own(self, folder: str, known: set[str]) -> None:
         """Refuses a folder of another user or where all may write, from the prefix on: after a look at it, a link could take its place. So it
-        could in what is above a new prefix, unless that has the sticky bit."""
+        could in what is above a new prefix, unless that has the sticky bit. Each folder is looked at once."""
         above = next(filter(os.path.exists, (self.root, *self.root.parents)))
         if above != self.root and not own_folders.is_held(above):
             raise Refused(f"other users may rename files in {above}: do this as its owner, or give a folder of yours by --prefix")
-        for it in (folder, *map(str, pathlib.PurePath(folder).parents)):
+        while folder not in known:
+            known.add(folder)
+            it, folder = folder, os.path.dirname(folder)
             path = os.path.normpath(self.root / it)
             try:
                 found = os.stat(path)

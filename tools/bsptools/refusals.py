@@ -2,6 +2,7 @@
 
 from __future__ import annotations
 
+import codecs
 import contextlib
 import os
 import shutil
@@ -14,6 +15,21 @@ from collections.abc import Iterable, Iterator
 REFUSED, NO_MEMORY, UNWRITTEN = 1, 5, 6
 # A fault of the tool itself, as sysexits.h has it, and the base of the statuses of signals.
 BUG, BY_SIGNAL = 70, 128
+
+
+# How text is encoded that may have come from a file. Names of files that are no text have halves of letters in it, which are bytes again.
+# JSON can spell others, too, which stand for nothing.
+LONE = "bsptools.lone"
+
+
+def _lone(error: UnicodeError) -> tuple[bytes, int]:
+    """What is written for halves of letters."""
+    assert isinstance(error, UnicodeEncodeError)
+    codes = map(ord, error.object[error.start : error.end])
+    return b"".join(bytes([it - 0xDC00]) if 0xDC80 <= it <= 0xDCFF else b"?" for it in codes), error.end
+
+
+codecs.register_error(LONE, _lone)
 
 
 class Refused(Exception):

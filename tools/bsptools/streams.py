@@ -13,7 +13,7 @@ import os
 import sys
 from typing import Any
 
-from .refusals import about
+from .refusals import LONE, about
 
 STDIN, STDOUT, STDERR = range(3)
 # Those that were closed when this process began.
@@ -83,7 +83,7 @@ def prepare() -> None:
     # Python has none where it was closed.
     sys.stdin = sys.stdin or open(STDIN, encoding="utf-8", errors="surrogateescape", closefd=False)  # pylint: disable=consider-using-with
     output = io.BufferedWriter(Output(STDOUT, "w", closefd=False))
-    sys.stdout = io.TextIOWrapper(output, encoding="utf-8", errors="surrogateescape", line_buffering=output.isatty())
+    sys.stdout = io.TextIOWrapper(output, encoding="utf-8", errors=LONE, line_buffering=output.isatty())
     # TextIOWrapper wants no more of what is below it than that it can be written to.
     told: Any = Told()
     sys.stderr = io.TextIOWrapper(told, encoding="utf-8", errors="backslashreplace", write_through=True)

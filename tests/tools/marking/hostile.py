@@ -253,7 +253,21 @@ HIDDEN = {
     "includes_itself.c": ("#if __INCLUDE_LEVEL__ == 0\n#include __FILE__\n#define UNUSED\n#else\n#pragma GCC system_header\n#endif\n#ifndef UNUSED\n", 6),
 }  # fmt: skip
 FALLS = "int falls(int n)\n{\n    switch (n) {\n    case 1: n = 2;\n    case 2: return n;\n    }\n    return 0;\n}"
+# What GCC finds only as it optimizes; and attributes that keep it from that, by their lines.
+FLOWS = "%s\nint flows(int *o)\n{\n    int n;\n    if (o[0] > 5)\n        n = o[1];\n    return n + o[2];\n}"
+ATTRIBUTES = {
+    "attribute.c": ('__attribute__((optimize("O0")))', 3), "words.c": ("__attribute((\nnoinline, __optimize__\n(0)))", 4),
+    "pasted_word.c": ('#define TWO(a, b) a##b\n__attribute__((TWO(opti, mize)("O0")))', 4), "brackets.c": ('[[gnu::optimize("O0")]]', 3),
+    "digraphs.c": ('<:<:gnu::__optimize__("O0"):>:>', 3), "using.cpp": ('[ [using gnu: optimize("O0")] ]', 3),
+    "continued.c": ('__attribute__((opti\\\nmize("O0")))', 3),
+}  # fmt: skip
+OPTIMIZES = """static int target[2] = {1}, others[2] __attribute__((unused, aligned(sizeof target)));
+static void optimize(int *n) { *n += target[target[1]]; }"""
 TOLD_HIDDEN = {
+    **{
+        name: (PROGRAM % (FLOWS % text, 'int o[4] = {9}; puts(flows(o) ? "no" : "it");'), f"it changes the compiler's options, which can hide warnings, at line {line}")
+        for name, (text, line) in ATTRIBUTES.items()
+    },
     **{name: (text + UNUSED + "#endif\n" * name.startswith("includes"), f"it hides warnings, at line {line}") for name, (text, line) in HIDDEN.items()},
     "level.c": ('#pragma GCC diagnostic warning "-Wimplicit-fallthrough=0"\n' + PROGRAM % (FALLS, 'puts("it");'), "it hides warnings, at line 1"),
     "options.c": (f'#pragma GCC optimize ("O0")\n#ifndef __OPTIMIZE__\n{IGNORES}#endif\n{UNUSED}', "it changes the compiler's options, which can hide warnings, at line 1"),
@@ -267,6 +281,7 @@ SHOWN = {
     "pushes.c": '#pragma GCC diagnostic push\n#pragma GCC diagnostic error "-Wformat"\n#pragma GCC diagnostic pop\n' + PROGRAM % ("", 'puts("it");'),
     "library.cpp": "#include <algorithm>\n#include <memory>\n#include <string>\n" + PROGRAM.replace("#include <bsp.h>", 'extern "C" {\n#include <bsp.h>\n}')
     % ("", f"int n = 1'000; const char *raw = R\"x(\n{IGNORES})x\"; puts(n == 1000 && raw ? \"it\" : \"no\");"),
+    "names.c": PROGRAM % (OPTIMIZES, '__attribute__((cleanup(optimize))) int n = 0; optimize(&n); puts(n == 1 ? "it" : "no");'),
     "line.c": '#line 9 "other.y"\n' + PROGRAM % ("", 'puts("it");'),
 }  # fmt: skip
 

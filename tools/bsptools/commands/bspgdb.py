@@ -14,7 +14,7 @@ import subprocess
 import sys
 from typing import Iterator, List, Optional, Sequence
 
-from .. import children, emulator, toolchain
+from .. import children, emulator, files, toolchain
 from ..debug import server
 from ..debug.packets import Closed, Connection
 from ..debug.symbol_file import symbol_file
@@ -23,10 +23,13 @@ from ..framed.session import DebuggerEnded
 from ..machines import Take
 from ..options import Parser
 from ..prepare.job import Job, prepared
+from ..program import elf
 from ..refusals import BY_SIGNAL, NO_MEMORY, Refused, about, tell
 
 GDB = "gdb-multiarch"
 SETTINGS = pathlib.Path(__file__).resolve().parents[1] / "debug/settings.gdb"
+# Where gdb looks for what a distribution has for debuggers.
+DEBUG_FILES = "/usr/lib/debug"
 # How the bridge is started that gdb has at the other end of a pipe: behind this stand the file that has a byte for each Ctrl-C, and the
 # debugger's command.
 PIPE = "--pipe"
@@ -168,12 +171,22 @@ def check(job: Job) -> None:
 def file_for_gdb(job: Job, folder: pathlib.Path) -> List[str]:
     """The file from which gdb takes names and lines, if there is one. Of a text one is made."""
     if job.kind != "asm":
+        if job.kind == "elf":
+            expect_ordinary_links(job)
         return [str(job.image)] if job.is_for_gdb else []
     content = symbol_file(job.code, job.options.program, job.content.decode(errors="surrogateescape"))
     path = folder / "symbols.elf"
     with about(path):
         path.write_bytes(content)
     return [str(path)] if content else []
+
+
+def expect_ordinary_links(job: Job) -> None:
+    """Refuses a program that names a pipe or a device as having more for debuggers: gdb would wait for it."""
+    folder = os.path.dirname(os.path.realpath(job.image))
+    named = [os.fsdecode(it) for it in elf.linked(job.content)]
+    places = [folder, os.path.join(folder, ".debug"), f"{DEBUG_FILES}{folder}"]
+    files.expect_ordinary([os.path.join(place, name) for name in named for place in places], job.options.program)
 
 
 def start_gdb(job: Job, folder: pathlib.Path) -> int:

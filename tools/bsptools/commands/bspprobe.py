@@ -107,9 +107,11 @@ def taken(options: argparse.Namespace) -> tuple[list[Samples], str]:
 def expect_different(found: list[Samples]) -> None:
     """Refuses two runs of one number of processes, of which a file has one line."""
     numbers = [it.p for it in found]
-    twice = [it for it in numbers if numbers.count(it) > 1]
-    if twice:
-        raise Refused(f"there are several runs on {twice[0]} processes: give only one")
+    known: set[int] = set()
+    for p in numbers:
+        if p in known:
+            raise Refused(f"there are several runs on {p} processes: give only one")
+        known.add(p)
     over = [it for it in numbers if it > limits.MOST_NODES]
     if over:
         raise Refused(f"a machine of {over[0]} processes has more than the {limits.MOST_NODES} nodes of the emulator")

@@ -10,7 +10,7 @@ import re
 from collections.abc import Callable, Iterable, Sequence
 from typing import Any, Dict, List, Optional, Tuple
 
-from .. import limits, python_packages
+from .. import children, limits, python_packages
 from ..files import content_of
 from ..refusals import Refused
 from .formulas import SOLUTION, Formula, Wrong
@@ -18,6 +18,9 @@ from .sheet import COMPARISONS, QUANTITIES, SETTINGS, Bound, Case, Generator, Nu
 from .toml_places import Path, Places
 
 MOST_BYTES, MOST_RUNS, MOST_NUMBERS = 1 << 20, 500, 1_000_000
+# For how many seconds a sheet may be read. What people write takes some hundredths of one. A reader of TOML takes the square of the parts of a
+# key, as a.b.c.
+MOST_READING = 10
 MOST_CONSTANT = (1 << 64) - 1
 MOST_POINTS, MOST_SECONDS, MOST_OUTPUT, MOST_PRICE = 1000, 3600, 1 << 26, 1 << 32
 UNITS = {"K": 1 << 10, "M": 1 << 20}
@@ -47,6 +50,16 @@ def read(path: str) -> Sheet:
         text = content_of(path, MOST_BYTES).decode()
     except UnicodeDecodeError as error:
         raise Refused(f"{path}: byte {error.start} is not UTF-8, and a sheet has to be") from error
+    seconds = children.patience(MOST_READING)
+    try:
+        with children.within(seconds):
+            return _read(path, text)
+    except children.TooLate as late:
+        raise Refused(f"{path}: it takes more than {seconds:.0f} s to read: give it fewer tables, and keys of fewer parts") from late
+
+
+def _read(path: str, text: str) -> Sheet:
+    """The sheet of a text."""
     reader = toml()
     try:
         content: Dict[str, Any] = reader.loads(text)
@@ -142,9 +155,11 @@ class Reader:
             tables = [{}]
         is_listed = "case" in self.content
         found = [self.case(("case", at), it) if is_listed else self.case((), it) for at, it in enumerate(tables)]
-        names = [it.name for it in found]
-        for at, name in enumerate(names):
-            if name in names[:at]:
+        names: set[str] = set()
+        for at, name in enumerate(it.name for it in found):
+            is_known = name in names
+            names.add(name)
+            if is_known:
                 self.note(("case", at, "name"), f"two cases have the name {name!r}: give each its own, as name = \"sorted\"")
         return found
 

@@ -2,6 +2,8 @@
 
 from __future__ import annotations
 
+import bisect
+import re
 from typing import Dict, List, Tuple, Union
 
 # The way to a value: the keys and the numbers of entries that lead to it.
@@ -19,6 +21,8 @@ class Places:
 
     def __init__(self, text: str) -> None:
         self.text, self.at = text, 0
+        # Where lines begin.
+        self.begins = [0, *(it.end() for it in re.finditer("\n", text))]
         # Of values, and of the keys in front of them.
         self.found: Dict[Path, Place] = {}
         self.keys: Dict[Path, Place] = {}
@@ -37,8 +41,8 @@ class Places:
         return self.keys.get(path) or self.found.get((*path, 0)) or self.of(path)
 
     def _place(self) -> Place:
-        begin = self.text.rfind("\n", 0, self.at) + 1
-        return self.text.count("\n", 0, self.at) + 1, self.at - begin + 1
+        line = bisect.bisect_right(self.begins, self.at)
+        return line, self.at - self.begins[line - 1] + 1
 
     def _document(self) -> None:
         table: Path = ()

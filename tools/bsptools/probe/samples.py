@@ -12,6 +12,8 @@ FIRST = "bspprobe 1"
 GIVEN = ("p", "word", "most")
 # What a probe that measures most prints, in bytes: 65,536 times of some 30 bytes in each of 1,000 rounds would be more, and nobody waits for it.
 MOST_PRINTED = 1 << 28
+# Runs of one file, each of which takes some milliseconds to look at.
+MOST_RUNS = 1024
 
 
 class Samples(NamedTuple):
@@ -33,6 +35,8 @@ def read(content: bytes, name: str) -> list[Samples]:
     starts = [number for number, line in enumerate(lines) if line.strip() == FIRST]
     if not starts:
         raise Refused(f"{name}: this was not printed by a program of bsplib/native/probe.c: it has no line {FIRST!r}")
+    if len(starts) > MOST_RUNS:
+        raise Refused(f"{name} has {len(starts)} runs, and {MOST_RUNS} are read at most: give fewer")
     found = []
     for start, end in zip(starts, [*starts[1:], len(lines)]):
         try:

@@ -27,6 +27,8 @@ ARCHITECTURE = re.compile(rb"(?<![0-9a-z_])rv32([0-9a-z_]+)\0")
 VERSIONS = re.compile(r"(?<!\d)\d+p\d+")
 # A section of symbols, the bytes of one of them, and of a name at the most.
 SYMBOLS, SYMBOL_BYTES, SECTION_BYTES, MOST_NAME = 2, 16, 40, 1 << 12
+# Sections that name a file with more for debuggers; and the number of a section that the header has no room for.
+LINKS, MANY = (b".gnu_debuglink\0", b".gnu_debugaltlink\0"), 0xFFFF
 FUNCTION, OBJECT = "STT_FUNC", "STT_OBJECT"
 # What makes a scope of a function's debug information, with the blocks in it.
 CALLED, PUT_IN, BLOCK = "DW_TAG_subprogram", "DW_TAG_inlined_subroutine", "DW_TAG_lexical_block"
@@ -92,6 +94,23 @@ def section(content: bytes, name: str) -> bytes:
         found = next((it for it in headers if content[texts + it[0] :][: len(wanted)] == wanted), None)
         return content[found[4] : found[4] + found[5]] if found is not None else b""
     return b""
+
+
+def linked(content: bytes) -> list[bytes]:
+    """The files that an ELF file names as having more for debuggers, as gdb opens them. All sections are looked at that a file can have."""
+    found: list[bytes] = []
+    with contextlib.suppress(struct.error, IndexError):
+        (start,) = struct.unpack_from("<I", content, 32)
+        size, count, of_names = struct.unpack_from("<HHH", content, 46)
+        first = struct.unpack_from("<10I", content, start)
+        # What is too much for the header is in the first section. gdb takes no headers of another size.
+        count, of_names = count or first[5], first[6] if of_names == MANY else of_names
+        (texts,) = struct.unpack_from("<I", content, start + of_names * size + 16)
+        for at in range(min(count, len(content) // size) if size == SECTION_BYTES else 0):
+            name, _, _, _, offset, length = struct.unpack_from("<6I", content, start + at * size)
+            if content.startswith(LINKS, texts + name):
+                found.append(content[offset : offset + min(length, MOST_NAME)].partition(b"\0")[0])
+    return list(dict.fromkeys(filter(None, found)))
 
 
 def names(content: bytes) -> set[str]:

@@ -210,6 +210,13 @@ def exchange(new: str | os.PathLike[str], old: str | os.PathLike[str]) -> None:
         raise OSError(ctypes.get_errno(), os.strerror(ctypes.get_errno()), os.fspath(old))
 
 
+def rename_new(made: str | os.PathLike[str], path: str | os.PathLike[str]) -> None:
+    """Gives a new folder its name, which nothing may have: a folder without files would be replaced."""
+    if os.path.lexists(path):
+        raise FileExistsError(errno.EEXIST, os.strerror(errno.EEXIST), os.fspath(path))
+    os.rename(made, path)
+
+
 @contextlib.contextmanager
 def opened_folder(folder: str | os.PathLike[str], above: int | None = None) -> Iterator[int]:
     """The number of an open folder. From one that is open already no link leads to it."""

@@ -245,9 +245,25 @@ def processor_seconds(child: subprocess.Popen[bytes]) -> float:
         return 0.0
 
 
+def has_ended(child: subprocess.Popen[bytes]) -> bool:
+    """Whether a process has ended. It is not waited for, so that its number stays its own, and is that of its group."""
+    with contextlib.suppress(ChildProcessError):
+        return child.returncode is not None or os.waitid(os.P_PID, child.pid, os.WEXITED | os.WNOHANG | os.WNOWAIT) is not None
+    return True
+
+
+def end_group(child: subprocess.Popen[bytes]) -> None:
+    """Ends what goes on of a process, which nobody has waited for yet, and of what it has started."""
+    if child.returncode is None:
+        with contextlib.suppress(ProcessLookupError):
+            os.killpg(child.pid, signal.SIGKILL)
+
+
 def end(child: subprocess.Popen[bytes], by: int = signal.SIGKILL) -> None:
     """Ends a process with its group where it goes on, waits for it, and closes the pipes to it. One that takes no notice, lets others end
-    first, or writes what nobody reads, is told again, and then killed."""
+    first, or writes what nobody reads, is told again, and then killed. If it has ended by itself, what it has left is killed."""
+    if has_ended(child):
+        end_group(child)
     for number in (by, by, signal.SIGKILL):
         if child.poll() is None:
             os.killpg(child.pid, number)

@@ -2,6 +2,7 @@
 
 from __future__ import annotations
 
+import codecs
 import contextlib
 import errno
 import os
@@ -38,6 +39,16 @@ def content_of(path: str | os.PathLike[str], most: int) -> bytes:
     """The bytes of a file, which are no more than so many, or a refusal that says why there are none. No more is read of one without an end."""
     with about(path), open(path, "rb") as file:
         return _bytes_of(file, path, most)
+
+
+def text_content(path: str | os.PathLike[str], most: int) -> bytes:
+    """The same of a text that a person may have edited, without the mark that some editors and spreadsheets put in front of UTF-8."""
+    return without_mark(content_of(path, most))
+
+
+def without_mark(content: bytes) -> bytes:
+    """These bytes without that mark."""
+    return content[len(codecs.BOM_UTF8) :] if content.startswith(codecs.BOM_UTF8) else content
 
 
 def _bytes_of(file: IO[bytes], path: str | os.PathLike[str], most: int) -> bytes:

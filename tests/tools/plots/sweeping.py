@@ -489,7 +489,7 @@ def keys(check: Check) -> None:
 def machines(check: Check) -> None:
     """Machines give each number of nodes the prices that were measured there, exactly, beside other prices; a table of one's own adds sizes to
     them, and its lines count before the others."""
-    (check.folder / "own.txt").write_text("mine 2 1e9 12 70.4 4 measured here\nt3e-16 16 1e9 8 5 8 another one\nt3e-1 1 35e6 0 0.5 3 assumed\n")
+    (check.folder / "own.txt").write_text("\ufeffmine 2 1e9 12 70.4 4 measured here\nt3e-16 16 1e9 8 5 8 another one\nt3e-1 1 35e6 0 0.5 3 assumed\n")
     own: Dict[str, Optional[str]] = {"BSP_MACHINES": "own.txt"}
     words = ["--engine", "plain", "--folder", "machines"]
     done = check.tool("bspsweep", *words, "--machine", "t3e,mine", "--prices", "1/3:9", *PROGRAMS, environment=own)

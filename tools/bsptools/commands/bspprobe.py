@@ -99,7 +99,7 @@ def taken(options: argparse.Namespace) -> tuple[list[Samples], str]:
     """What was measured before."""
     found = []
     for path in options.samples:
-        found += samples.read(files.content_of(path, samples.MOST_PRINTED), path)
+        found += samples.read(files.text_content(path, samples.MOST_PRINTED), path)
     expect_different(found)
     return found, "from samples"
 

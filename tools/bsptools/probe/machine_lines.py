@@ -43,7 +43,7 @@ def add(path: str, lines: list[str]) -> None:
     old = ""
     if os.path.isfile(path):
         machines.read(pathlib.Path(path))  # so that no other file is taken for one
-        old = files.content_of(path, limits.MOST_TABLE).decode(errors="surrogateescape")
+        old = files.text_content(path, limits.MOST_TABLE).decode(errors="surrogateescape")
     names = {it.split(None, 1)[0] for it in lines}
     kept = [it for it in old.splitlines() if it.split(None, 1)[:1] == [] or it.split(None, 1)[0] not in names]
     text = "".join(f"{it}\n" for it in [*kept, *lines])

@@ -73,6 +73,7 @@ def main(words: list[str]) -> int:
         raise Refused("--program is a complete command: leave out --mpi")
     files.expect_apart([options.output], options.samples)
     files.expect_writable([options.output])
+    machine_lines.expect_table(options.output)
     python_packages.expect(python_packages.NUMPY)
     from ..probe.fit import fit
 

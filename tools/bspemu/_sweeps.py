@@ -131,10 +131,11 @@ def made(words: List[str], executor: Optional[concurrent.futures.Executor]) -> S
                 end_all()
                 raise
     whole.take_tickets()
-    wrong = [*whole.unplaced, *result_table.failures(whole.places)]
+    whole.take_results()
+    wrong = [*whole.unplaced, *result_table.failures(whole.places, whole.found)]
     if wrong:
         raise BspError("\n".join(wrong))
-    table = result_table.table(whole.points, whole.places, [name for name, _ in options.define])
+    table = result_table.table(whole.points, whole.found, [name for name, _ in options.define])
     return Sweep(table, table_record.made(options, words, whole.points, whole.store, table, whole.sought()))
 
 

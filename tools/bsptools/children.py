@@ -14,6 +14,7 @@ import shutil
 import signal
 import stat
 import subprocess
+import sys
 import tempfile
 import threading
 import time
@@ -23,13 +24,15 @@ from typing import Any, NoReturn
 
 from . import memory_bound, own_folders
 from .files import is_text
-from .refusals import tell
+from .refusals import BY_SIGNAL, tell
 
 PR_SET_PDEATHSIG = 1
 # Of a signal that no process has sent.
 SI_KERNEL = 0x80
 # For how many seconds a process may go on that was told to end, and after how many a stopped one looks whether it is to go on.
 PATIENCE, POLL = 1, 0.1
+# After how many seconds a signal is sent again that was lost.
+SOON = 0.02
 # What ends a tool from outside. Each comes to the same end as Ctrl-C: temporary folders are removed, and children are ended.
 SIGNALS = (signal.SIGTERM, signal.SIGHUP, signal.SIGQUIT)
 # What the names of folders for a while have of the host's: other hosts may have the folder above them too, and locks of their own.
@@ -42,8 +45,9 @@ PLACES = ("/tmp", "/var/tmp")
 MOST_BUSY = 4.0
 _LIBC = ctypes.CDLL(None, use_errno=True)
 _taken: list[signal.Signals] = []
-# The signals that raised `Ended`.
+# The signals that raised `Ended`, and the processes that took signals, of which this one is the last.
 _came: list[int] = []
+_own: list[int] = []
 # Those that were started by `start`, and that `end` was not told of.
 _running: list[subprocess.Popen[bytes]] = []
 
@@ -56,7 +60,7 @@ def patience(seconds: float) -> float:
 
 
 class Ended(BaseException):
-    """A signal has ended this process."""
+    """A signal has ended this process. Where this is lost, the signal is sent again."""
 
     def __init__(self, number: int) -> None:
         super().__init__(number)
@@ -70,6 +74,25 @@ def _end(number: int, _frame: object) -> NoReturn:
         signal.signal(other, signal.SIG_IGN)
     _came.append(number)
     raise Ended(number)
+
+
+def _lost(lost: sys.UnraisableHookArgs) -> None:
+    """Sends a signal again whose exception was lost: Python drops one that is raised as it frees something or loads a module, tells of it, and
+    goes on."""
+    error = lost.exc_value
+    if isinstance(error, Ended):
+        if os.getpid() != _own[-1]:
+            # What was split off is about to be another program, which the signal would end.
+            os._exit(BY_SIGNAL + error.number)
+        end_by_signals_again()
+        threading.Thread(target=_send_again, args=(error.number,), daemon=True).start()
+    elif not isinstance(error, memory_bound.Late):
+        sys.__unraisablehook__(lost)
+
+
+def _send_again(number: int) -> None:
+    time.sleep(SOON)
+    os.kill(os.getpid(), number)
 
 
 def came_last() -> int | None:
@@ -136,6 +159,8 @@ def end_by_signals() -> None:
 
 def end_by_signals_again() -> None:
     """The same once more, where `Ended` was caught and this process goes on."""
+    _own.append(os.getpid())
+    sys.unraisablehook = _lost
     for number in _taken:
         signal.signal(number, _end)
 
@@ -152,7 +177,7 @@ def looking_for_signals() -> Iterator[None]:
         signal.setitimer(signal.ITIMER_REAL, 0)
 
 
-class TooLate(BaseException):
+class TooLate(memory_bound.Late):
     """The time of a block is over."""
 
 
@@ -165,7 +190,7 @@ def within(seconds: float) -> Iterator[None]:
         raise TooLate
 
     before = signal.signal(signal.SIGALRM, stop)
-    signal.setitimer(signal.ITIMER_REAL, seconds)
+    signal.setitimer(signal.ITIMER_REAL, seconds, memory_bound.AGAIN)
     try:
         yield
     finally:
@@ -199,9 +224,10 @@ def start(words: Sequence[str], by: int = signal.SIGKILL, keeper: int = -1, **gi
         end_with_parent(by, parent)
         if keeper >= 0:
             os.write(keeper, b"%d\n" % os.getpid())
-        signal.pthread_sigmask(signal.SIG_UNBLOCK, (signal.SIGINT, *SIGNALS))
         for number in (signal.SIGINT, *SIGNALS):
             signal.signal(number, signal.SIG_DFL)
+        # One that came meanwhile ends this process.
+        signal.pthread_sigmask(signal.SIG_UNBLOCK, (signal.SIGINT, *SIGNALS))
 
     child = subprocess.Popen(list(words), start_new_session=True, preexec_fn=prepare, **given)
     _running.append(child)
@@ -219,9 +245,25 @@ def processor_seconds(child: subprocess.Popen[bytes]) -> float:
         return 0.0
 
 
+def has_ended(child: subprocess.Popen[bytes]) -> bool:
+    """Whether a process has ended. It is not waited for, so that its number stays its own, and is that of its group."""
+    with contextlib.suppress(ChildProcessError):
+        return child.returncode is not None or os.waitid(os.P_PID, child.pid, os.WEXITED | os.WNOHANG | os.WNOWAIT) is not None
+    return True
+
+
+def end_group(child: subprocess.Popen[bytes]) -> None:
+    """Ends what goes on of a process, which nobody has waited for yet, and of what it has started."""
+    if child.returncode is None:
+        with contextlib.suppress(ProcessLookupError):
+            os.killpg(child.pid, signal.SIGKILL)
+
+
 def end(child: subprocess.Popen[bytes], by: int = signal.SIGKILL) -> None:
     """Ends a process with its group where it goes on, waits for it, and closes the pipes to it. One that takes no notice, lets others end
-    first, or writes what nobody reads, is told again, and then killed."""
+    first, or writes what nobody reads, is told again, and then killed. If it has ended by itself, what it has left is killed."""
+    if has_ended(child):
+        end_group(child)
     for number in (by, by, signal.SIGKILL):
         if child.poll() is None:
             os.killpg(child.pid, number)

@@ -2,6 +2,7 @@
 
 from __future__ import annotations
 
+import codecs
 import contextlib
 import errno
 import os
@@ -40,6 +41,16 @@ def content_of(path: str | os.PathLike[str], most: int) -> bytes:
     """The bytes of a file, which are no more than so many, or a refusal that says why there are none. No more is read of one without an end."""
     with about(path), open(path, "rb") as file:
         return _bytes_of(file, path, most)
+
+
+def text_content(path: str | os.PathLike[str], most: int) -> bytes:
+    """The same of a text that a person may have edited, without the mark that some editors and spreadsheets put in front of UTF-8."""
+    return without_mark(content_of(path, most))
+
+
+def without_mark(content: bytes) -> bytes:
+    """These bytes without that mark."""
+    return content[len(codecs.BOM_UTF8) :] if content.startswith(codecs.BOM_UTF8) else content
 
 
 def _bytes_of(file: IO[bytes], path: str | os.PathLike[str], most: int) -> bytes:
@@ -222,6 +233,13 @@ def exchange(new: str | os.PathLike[str], old: str | os.PathLike[str]) -> None:
     words = [ctypes.c_int(AT_FDCWD), os.fsencode(new), ctypes.c_int(AT_FDCWD), os.fsencode(old), ctypes.c_uint(RENAME_EXCHANGE)]
     if libc.renameat2(*words) != 0:
         raise OSError(ctypes.get_errno(), os.strerror(ctypes.get_errno()), os.fspath(old))
+
+
+def rename_new(made: str | os.PathLike[str], path: str | os.PathLike[str]) -> None:
+    """Gives a new folder its name, which nothing may have: a folder without files would be replaced."""
+    if os.path.lexists(path):
+        raise FileExistsError(errno.EEXIST, os.strerror(errno.EEXIST), os.fspath(path))
+    os.rename(made, path)
 
 
 @contextlib.contextmanager

@@ -9,7 +9,7 @@ from fractions import Fraction
 from typing import Any, NamedTuple
 
 from . import limits
-from .files import content_of
+from .files import text_content
 from .prices import Exact, number, settled
 from .refusals import Refused
 
@@ -51,7 +51,7 @@ def exact(word: str) -> Exact:
 
 def read(path: pathlib.Path) -> dict[str, Machine]:
     """The machines of a table, by their names."""
-    text = content_of(path, limits.MOST_TABLE).decode(errors="replace")
+    text = text_content(path, limits.MOST_TABLE).decode(errors="replace")
     found: dict[str, Machine] = {}
     for number, line in enumerate(text.splitlines(), 1):
         if line.strip() and not line.startswith("#"):

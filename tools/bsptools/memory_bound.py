@@ -20,7 +20,11 @@ _outside: list[tuple[int, int]] = []
 _overran: list[bool] = []
 
 
-class TooLong(BaseException):
+class Late(BaseException):
+    """The time of something is over. Where this is lost, its signal comes again."""
+
+
+class TooLong(Late):
     """The time of a block is over. A block that leaves out what it cannot read does not go on after this one."""
 
 

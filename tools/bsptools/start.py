@@ -26,6 +26,8 @@ TOOLS = {
     "bspcheck": ("commands.bspcheck", ""),
     "bspprobe": ("commands.bspprobe", python_packages.NUMPY),
 }
+# What Python says where the host lets it start no thread.
+THREADLESS = "can't start new thread"
 FOLDER = pathlib.Path(__file__).resolve().parents[1]
 
 
@@ -71,6 +73,9 @@ def ended(name: str, work: Callable[[], int]) -> int:
         streams.drop_output()
         return REFUSED
     except Exception as error:  # pylint: disable=broad-except
+        if isinstance(error, RuntimeError) and THREADLESS in str(error):
+            tell([f"{name}: no thread can be started, because this user has too many processes: end some, or raise ulimit -u"])
+            return REFUSED
         import traceback
 
         last = traceback.extract_tb(error.__traceback__)[-1]

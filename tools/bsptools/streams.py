@@ -77,9 +77,11 @@ def prepare() -> None:
         except OSError:
             _closed.add(number)
             opened = os.open(os.devnull, os.O_WRONLY if number == STDERR else os.O_RDONLY)
-            os.dup2(opened, number, inheritable=True)
             if opened != number:
+                os.dup2(opened, number)
                 os.close(opened)
+            # What this process starts would have it closed, and could take its number for something else.
+            os.set_inheritable(number, True)
     # Python has none where it was closed.
     sys.stdin = sys.stdin or open(STDIN, encoding="utf-8", errors="surrogateescape", closefd=False)  # pylint: disable=consider-using-with
     output = io.BufferedWriter(Output(STDOUT, "w", closefd=False))

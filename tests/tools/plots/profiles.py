@@ -141,6 +141,18 @@ def damaged(check: Check) -> None:
         check.tell(f"table with {name}", taken(TABLE, before, after, said))
     for name, text in {**spelled, "table": TABLE}.items():
         check.expect(f"{name} as it was", plot_inputs.understood(name, text.encode(), profile.Reading.OTHERS).name == name, "")
+        path = check.folder / "of-a-spreadsheet"
+        path.write_bytes(("\ufeff" + text).replace("\n", "\n" if name == "text" else "\r\n").encode())
+        check.tell(f"{name} of a spreadsheet", read_again(path))
+
+
+def read_again(path: pathlib.Path) -> str:
+    """Why a file is not read."""
+    try:
+        plot_inputs.read(str(path), profile.Reading.OTHERS)
+    except Refused as refused:
+        return str(refused)[:300]
+    return ""
 
 
 def taken(text: str, before: str, after: str, said: str) -> str:

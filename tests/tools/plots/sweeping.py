@@ -53,6 +53,40 @@ KILLING = """\
 case "$*" in *" --nodes 2 "*) read -r _ _ _ maker _ <"/proc/$PPID/stat" && kill -KILL "$maker" ;; esac
 exec "$PROVED" "$@"
 """
+# Stands for an emulator, and edits a file that the program reads.
+EDITING = """\
+#!/bin/sh
+case $1 in run) printf 1 >>size.txt ;; esac
+exec "$PROVED" "$@"
+"""
+# Stands for a compiler, and edits what it has compiled.
+RECOMPILING = """\
+#!/bin/sh
+PATH=$REST
+riscv64-unknown-elf-objcopy "$@" && printf '// again\\n' >>seeks.c
+"""
+# Reads two files of one form of name, and goes no further without the first one.
+READING = """\
+#include <bsp.h>
+#include <stdio.h>
+#include <stdlib.h>
+int main(void)
+{
+    const char *names[] = {"part1.txt", "part2.txt"};
+    int n = 0;
+    bsp_begin(bsp_nprocs());
+    for (int i = 0; i < 2; i++) {
+        FILE *file = fopen(names[i], "r");
+        if (!file || fscanf(file, "%d", &n) != 1)
+            exit(1);
+        for (volatile int k = 0; k < n; k++)
+            ;
+    }
+    printf("%g\\n", bsp_time());
+    bsp_end();
+    return 0;
+}
+"""
 SOURCE = """\
 #include <bsp.h>
 #include <stdio.h>
@@ -110,6 +144,7 @@ def parts(make: Parts) -> List[Part]:
         make.part("runs that do not end", ended),
         make.part("a sweep of a program in C", sources, tools=COMPILER),
         make.part("files that nobody gave a sweep", sought, tools=COMPILER),
+        make.part("what is edited while a sweep goes on", edited, tools=COMPILER),
         make.part("runs that cannot be made", missing),
         make.part("programs that are not compiled", uncompiled, tools=COMPILER),
     ]
@@ -207,6 +242,37 @@ def sought(check: Check) -> None:
     found = work(BSPRUN_FLAGS="--no-files"), work()
     check.expect("options of bsprun in the environment", found[0] == found[1] > least + 1000, (found, least))
     check.expect("nothing is written beside the program", not (check.folder / "written.txt").exists(), "written.txt is there")
+
+
+def edited(check: Check) -> None:
+    """A result depends on what a run has read, and not on what is there at its end; on files that it was given with another one; and on one
+    text of its program."""
+    place = check.folder
+    for name, text in (("seeks.c", SEEKING), ("parts.c", READING), ("size.txt", "1"), ("part1.txt", "9"), ("part2.txt", "100")):
+        (place / name).write_text(text)
+    for name, text in (("editing", EDITING), ("riscv64-unknown-elf-objcopy", RECOMPILING)):
+        (place / name).write_text(text)
+        (place / name).chmod(0o755)
+    words = ["--engine", "plain", "--folder", "edited"]
+    done = check.tool("bspsweep", *words, "seeks.c", environment={"BSPEMU": str(place / "editing"), "PROVED": os.environ["BSPEMU"]})
+    right = done.returncode == 1 and "size.txt has changed since the run began" in done.stderr and outcomes(done.stdout) == ["not run"]
+    check.expect("a file that is edited while a run reads it", right, done)
+
+    def work() -> int:
+        return int(next(csv.DictReader(io.StringIO(check.tool("bspsweep", *words, "--l", "1", "parts.c").stdout)))["w"])
+
+    first = work()
+    (place / "part2.txt").write_text("10000")
+    second = work()
+    (place / "part3.txt").write_text("1")
+    third = work()
+    (place / "part3.txt").unlink()
+    check.expect("files of one form of name", second > first + 9900 and third != second == work(), (first, second, third))
+    done = check.tool("bspsweep", *words, "--l", "1,5", "parts.c", "seeks.c")
+    check.expect("prices of the clock", "note: parts.c may read the clock" in done.stderr, done.stderr)
+    environment = {"PATH": f"{place}:{os.environ['PATH']}", "REST": os.environ["PATH"]}
+    done = check.tool("bspsweep", *words, "--define", "N=1,2", "seeks.c", environment=environment)
+    check.expect("a program that is edited as it is compiled", done.returncode == 1 and "seeks.c has changed while it was compiled" in done.stderr, done)
 
 
 def outcomes(text: str) -> List[str]:
@@ -423,7 +489,7 @@ def keys(check: Check) -> None:
 def machines(check: Check) -> None:
     """Machines give each number of nodes the prices that were measured there, exactly, beside other prices; a table of one's own adds sizes to
     them, and its lines count before the others."""
-    (check.folder / "own.txt").write_text("mine 2 1e9 12 70.4 4 measured here\nt3e-16 16 1e9 8 5 8 another one\nt3e-1 1 35e6 0 0.5 3 assumed\n")
+    (check.folder / "own.txt").write_text("\ufeffmine 2 1e9 12 70.4 4 measured here\nt3e-16 16 1e9 8 5 8 another one\nt3e-1 1 35e6 0 0.5 3 assumed\n")
     own: Dict[str, Optional[str]] = {"BSP_MACHINES": "own.txt"}
     words = ["--engine", "plain", "--folder", "machines"]
     done = check.tool("bspsweep", *words, "--machine", "t3e,mine", "--prices", "1/3:9", *PROGRAMS, environment=own)

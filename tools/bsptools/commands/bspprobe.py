@@ -73,6 +73,7 @@ def main(words: list[str]) -> int:
         raise Refused("--program is a complete command: leave out --mpi")
     files.expect_apart([options.output], options.samples)
     files.expect_writable([options.output])
+    machine_lines.expect_table(options.output)
     python_packages.expect(python_packages.NUMPY)
     from ..probe.fit import fit
 
@@ -99,7 +100,7 @@ def taken(options: argparse.Namespace) -> tuple[list[Samples], str]:
     """What was measured before."""
     found = []
     for path in options.samples:
-        found += samples.read(files.content_of(path, samples.MOST_PRINTED), path)
+        found += samples.read(files.text_content(path, samples.MOST_PRINTED), path)
     expect_different(found)
     return found, "from samples"
 

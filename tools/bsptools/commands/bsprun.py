@@ -16,11 +16,11 @@ from ..limits import MOST_WORKERS, WORKERS
 from ..machines import Take
 from ..options import FLAGS, MISTAKES, OUTPUT, Parser
 from ..outputs.report import Report
-from ..prepare.given_files import files_read, outputs_of
+from ..prepare.given_files import files_read, outputs_of, with_others
 from ..prepare.job import Job, prepared
 from ..refusals import BY_SIGNAL, REFUSED, UNWRITTEN, Refused, about, counted, put, show, tell
 from ..run.cost_formats import form, wants_counts
-from ..run.found_files import Wanted, with_others
+from ..run.found_files import Wanted
 from ..run.long_overflows import Beside
 from ..run.repeated_output import Repeated
 from ..run.watched_run import Done, Fewer, Interrupted, Stopped, Watch
@@ -119,8 +119,8 @@ def arguments(words: list[str]) -> argparse.Namespace:
         raise Refused("--recorded is for --page: give that too")
     asked.is_here = asked.out is None and not asked.no_files
     asked.out = os.curdir if asked.is_here else asked.out
-    # The files that the program looks for and nobody has given.
-    asked.sought = {}
+    # The files that the program looks for and nobody has given; and the digests of those that it gets all the same.
+    asked.sought, asked.digests = {}, {}
     if asked.apart and not asked.summary and asked.profile is None:
         raise Refused("--apart printing needs --summary or --profile: give one of them")
     tell([f"bsprun: {it} after PROGRAM is an argument of the program" for it in reader.own(words, asked.args)])
@@ -167,7 +167,7 @@ def deliver(job: Job, done: Done) -> int:
     elif options.report is not None:
         from ..outputs.report_formats import spelled_for
 
-        files.write(options.report, spelled_for(options.report, found, list(options.sought)))
+        files.write(options.report, spelled_for(options.report, found, list(options.sought), options.digests))
     if found.outcome != "ended" and job.mark:
         from ..run.held_lines import held_lines
 

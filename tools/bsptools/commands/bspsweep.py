@@ -10,21 +10,26 @@ import shlex
 import shutil
 
 from .. import children, emulator, files, limits, sealed_results
+from ..files import content_of
+from ..limits import MOST_PROGRAM, MOST_TABLE
 from ..machines import Family, family_named
 from ..options import COMPILING, P, Parser, listed, named, pair
+from ..prepare.clock_rate import has_clock
 from ..prices import Exact, G, L
 from ..prices import listed as prices_listed
 from ..refusals import REFUSED, Refused, counted, put, show, tell
 from ..sealed_results import digest
 from ..sweep import engines, result_folders, result_table, sweep_job, table_record
 from ..sweep.result_folders import Unkept, kept_in
-from ..sweep.result_store import MAIN, Place, Store
+from ..sweep.result_store import MAIN, Place, Record, Store
 from ..sweep.sweep_points import Run, expect_few, points
 from ..sweep.sweep_programs import programs
 from ..sweep.sweep_progress import Progress
 
 # The status where all runs were made, and one of them was stopped, at its limit or refused to go on: that of such a run.
 NOT_ENDED = 2
+# g and l of the clock that programs read: prices have no part in a run.
+CLOCK_PRICES = (1, 1)
 # A host: how many runs at a time it makes, a user, a name or an address, a port; or this host.
 HOST = re.compile(r"(?:\d+/)?(?::|(?:\w[\w.+-]*@)?(?:\w[\w.-]*|\[[\da-fA-F:.]+\])(?::\d+)?)", re.ASCII)
 
@@ -132,9 +137,15 @@ class Sweep:
         self.folder = kept_in(options.folder)
         self.points = points(options, programs(options, self.folder))
         self.store = Store(self.folder, options)
+        # What a table is made of may be something else by the end of the runs.
+        self.store.digests.update(text for it in self.points for text in it.run.program.texts)
+        for _, path in table_record.machine_tables(options):
+            self.store.digest_of(path, MOST_TABLE)
         # The runs that have no place are not made.
         self.places: dict[Run, Place] = {}
         self.unplaced: list[str] = []
+        # What came of the runs, as it is looked at once.
+        self.found: dict[Run, Record | None] = {}
         for run in dict.fromkeys(it.run for it in self.points):
             self.give_place(run)
 
@@ -197,14 +208,28 @@ class Sweep:
                     wrong.append(f"{run}: another result{' on ' + host if host else ''}: {place.file('json', copy)}")
         return wrong
 
+    def take_results(self) -> None:
+        """Takes what came of the runs: a file that one of them rests on may change as the table is written."""
+        self.found = {run: place.found() for run, place in self.places.items()}
+
     def sought(self) -> dict[str, str]:
         """The files that programs looked for and nobody gave, with their digests."""
-        found = [it for it in (place.found() for place in self.places.values()) if it is not None]
-        return {name: content for it in found for name, content in it["sought"].items()}
+        return {name: content for it in self.found.values() if it is not None for name, content in it["sought"].items()}
+
+    def told_of_clocks(self) -> list[str]:
+        """A line where programs read the clock, which counts in each run at prices that are not those of its points."""
+        programs = dict.fromkeys(it.run.program for it in self.points if (it.g, it.l) != CLOCK_PRICES and it.run in self.places)
+        names = list(dict.fromkeys(it.name for it in programs if has_clock(content_of(it.image, MOST_PROGRAM))))
+        more = f" and {counted(len(names) - 1, 'more program')}" if names[1:] else ""
+        g, l = CLOCK_PRICES
+        return [
+            f"note: {names[0]}{more} may read the clock, which counts a byte of h as {g} and a superstep's end as {l} in all runs: if w depends on the"
+            " time, it is that of these prices"
+        ] if names else []  # fmt: skip
 
     def write(self) -> table_record.Record:
         """Writes the table, and beside it the record of it, which is answered."""
-        text = result_table.table(self.points, self.places, [name for name, _ in self.options.define])
+        text = result_table.table(self.points, self.found, [name for name, _ in self.options.define])
         record = table_record.made(self.options, self.words, self.points, self.store, text, self.sought())
         if self.options.output is None:
             put(text)
@@ -254,11 +279,13 @@ def sweep(options: argparse.Namespace, words: list[str], before: table_record.Re
             tell_broken_off(whole)
             raise
     wrong = whole.check(engine) if options.check else []
-    is_whole = not wrong and not whole.missing() and not whole.unplaced
+    whole.take_results()
+    is_whole = not wrong and None not in whole.found.values() and not whole.unplaced
     record = whole.write() if is_whole or not options.check else None
     is_same = record is None or before is None or tell_again(before, record)
-    stopped = result_table.stopped(whole.places)
-    tell([*whole.unplaced, *result_table.failures(whole.places), *stopped, *wrong], "bspsweep: ")
+    tell(whole.told_of_clocks(), "bspsweep: ")
+    stopped = result_table.stopped(whole.found)
+    tell([*whole.unplaced, *result_table.failures(whole.places, whole.found), *stopped, *wrong], "bspsweep: ")
     if options.check:
         tell([f"{counted(len(whole.places), 'run')} gave the same again" if is_whole else "no table was written"], "bspsweep: ")
     return REFUSED if not is_whole or not is_same else NOT_ENDED if stopped else 0

@@ -7,10 +7,12 @@ import sys
 from types import ModuleType
 from typing import Callable, List, Optional, Sequence
 
-from ..refusals import put, tell
+from ..refusals import Refused, put, tell
 from .line_answers import Dialogue
 
 PROMPT = "(bsp) "
+# Letters of a line that is not typed.
+MOST_LINE = 1 << 16
 
 
 class Stopped(Exception):
@@ -78,9 +80,20 @@ class Interrupts:
             editor.set_startup_hook(lambda: editor.insert_text(before))
         self._is_at_prompt = True
         try:
-            return input(PROMPT)
+            return input(PROMPT) if editor is not None else written()
         finally:
             self._is_at_prompt = False
+
+
+def written() -> str:
+    """The next line of a pipe or a file, which may be without an end."""
+    put(PROMPT)
+    line = sys.stdin.readline(MOST_LINE + 1)
+    if len(line) > MOST_LINE:
+        raise Refused(f"a line of the session has more than {MOST_LINE} letters")
+    if not line:
+        raise EOFError
+    return line.rstrip("\n")
 
 
 def talk(command: Sequence[str]) -> None:

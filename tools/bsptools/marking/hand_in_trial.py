@@ -442,7 +442,7 @@ def dearest_requests(work: Work, trace: Tracer, report: Report) -> List[str]:
     return found
 
 
-class _Impatient(BaseException):
+class _Impatient(memory_bound.Late):
     """It has taken too long. What is left out because it cannot be read, as any Exception, does not keep this one."""
 
 
@@ -455,7 +455,7 @@ def patient(seconds: int = PATIENCE) -> Iterator[None]:
         raise _Impatient
 
     before = signal.signal(signal.SIGALRM, stop)
-    signal.setitimer(signal.ITIMER_REAL, seconds)
+    signal.setitimer(signal.ITIMER_REAL, seconds, memory_bound.AGAIN)
     try:
         yield
     except (_Impatient, Refused, OSError, MemoryError, ValueError, KeyError, IndexError, RecursionError, AssertionError):

@@ -59,7 +59,7 @@ class Inputs:
         """What a generator writes."""
         path = self.sheet.file(asked.program)
         seed = asked.seed if self.seed is None else self.seed
-        ran = bounded_run.run([*words_of(path), str(seed), str(nodes)], SECONDS, MOST_INPUT)
+        ran = bounded_run.run([*words_of(path), str(seed), str(nodes)], SECONDS, MOST_INPUT, name=asked.program)
         if ran.how != bounded_run.ENDED or ran.status != 0:
             how = f"ended with status {ran.status}" if ran.how == bounded_run.ENDED else f"did not end in {SECONDS} s, or wrote too much"
             raise Refused(f"{path} {seed} {nodes} {how}", *ran.said.decode(errors="replace").splitlines()[-5:])

@@ -3,6 +3,7 @@
 from __future__ import annotations
 
 import contextlib
+import math
 import os
 import pathlib
 import shlex
@@ -13,6 +14,7 @@ import subprocess
 import sys
 import sysconfig
 import tempfile
+import time
 from dataclasses import replace
 from typing import Any, Dict, Iterator, List, NamedTuple, Optional, Sequence, Tuple
 
@@ -311,10 +313,28 @@ class Marking:
             answers[at] = [Judgement(*it) for it in answer] if isinstance(answer, list) else broken
 
         def make(at: int) -> List[Judgement]:
-            return [self.judgement(found[at], number) for number in range(len(self.sheet.runs))]
+            judged: List[Judgement] = []
+            for number in range(len(self.sheet.runs)):
+                # A checker that does not end would have its time for each run.
+                is_late = bool(judged) and judged[-1] == self.late()
+                judged.append(judged[-1] if is_late else self.judgement(found[at], number))
+            return judged
 
-        trial_pool.each(tasks, self.jobs, make, take, lambda: None)
+        quiet = time.monotonic() + bounded_run.QUIET
+
+        def look() -> None:
+            nonlocal quiet
+            left = sum(answers[at] is None for at in tasks)
+            if left and time.monotonic() >= quiet:
+                quiet = math.inf
+                tell([f"bspcheck: {self.sheet.checker} has {counted(left, 'hand-in')} left to judge: it may take {SECONDS} s for a run"])
+
+        trial_pool.each(tasks, self.jobs, make, take, look)
         return answers
+
+    def late(self) -> Judgement:
+        """What is said of a run for which the checker has no end."""
+        return Judgement(UNJUDGED, f"{self.sheet.checker} did not end in {SECONDS} s")
 
     def judgement(self, evidence: Evidence, number: int) -> Judgement:
         """What the checker says of a run."""
@@ -336,7 +356,7 @@ class Marking:
         """What a run of the checker comes to. A text of Python that raises something ends with status 1, as one that found a fault."""
         name, said = self.sheet.checker, ran.said.decode(errors="replace").splitlines()
         if ran.how != bounded_run.ENDED:
-            return Judgement(UNJUDGED, f"{name} did not end in {SECONDS} s" if ran.how == bounded_run.LATE else f"{name} wrote too much")
+            return self.late() if ran.how == bounded_run.LATE else Judgement(UNJUDGED, f"{name} wrote too much")
         if ran.status < 0:
             return Judgement(UNJUDGED, f"{name} was ended: {signal.strsignal(-ran.status)}")
         if ran.status != 0 and TRACEBACK in said:

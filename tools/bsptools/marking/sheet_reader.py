@@ -11,7 +11,7 @@ from collections.abc import Callable, Iterable, Sequence
 from typing import Any, Dict, List, Optional, Tuple
 
 from .. import children, limits, python_packages
-from ..files import content_of
+from ..files import text_content
 from ..refusals import Refused
 from .formulas import SOLUTION, Formula, Wrong
 from .sheet import COMPARISONS, QUANTITIES, SETTINGS, Bound, Case, Generator, Numbers, Run, Sheet, settings_of
@@ -47,7 +47,7 @@ def toml() -> Any:
 def read(path: str) -> Sheet:
     """The sheet of a file. All that is wrong in it is refused at once, each with line and column."""
     try:
-        text = content_of(path, MOST_BYTES).decode()
+        text = text_content(path, MOST_BYTES).decode()
     except UnicodeDecodeError as error:
         raise Refused(f"{path}: byte {error.start} is not UTF-8, and a sheet has to be") from error
     seconds = children.patience(MOST_READING)

@@ -5,15 +5,15 @@ from __future__ import annotations
 import csv
 import io
 import json
-from collections.abc import Sequence
+from collections.abc import Mapping, Sequence
 from typing import Any
 
 from ..files import whole
 from ..refusals import Refused, why_unfit
 from .report import MOST_COST, Report, Superstep, checked, part
 
-# In a report as JSON: the files that the program looked for and nobody gave.
-SOUGHT = "sought"
+# In a report as JSON: the files that the program looked for and nobody gave, and the digests of those that it got all the same.
+SOUGHT, GIVEN = "sought", "given"
 
 
 def read(content: bytes) -> Report | None:
@@ -58,22 +58,26 @@ def as_csv(report: Report) -> bytes:
     return text.getvalue().encode()
 
 
-def as_json(report: Report, sought: Sequence[str] = ()) -> bytes:
-    """An object with the supersteps, the total and the outcome, and the files that the program looked for and nobody gave, if there are any."""
+def as_json(report: Report, sought: Sequence[str] = (), given: Mapping[str, str] | None = None) -> bytes:
+    """An object with the supersteps, the total and the outcome. If there are any, it has the files that the program looked for and nobody gave,
+    and the digests of those that it got all the same."""
     supersteps = [{"superstep": it.number, **it.costs, "end": it.end} for it in report.supersteps]
-    content = {"supersteps": supersteps, "total": report.total, "outcome": report.outcome, **({SOUGHT: list(sought)} if sought else {})}
+    files: dict[str, object] = {SOUGHT: list(sought), GIVEN: dict(given or {})}
+    content = {"supersteps": supersteps, "total": report.total, "outcome": report.outcome, **{name: it for name, it in files.items() if it}}
     return json.dumps(content, indent=1).encode() + b"\n"
 
 
-def sought_in(content: bytes) -> list[str]:
-    """The files of a report that `as_json` made."""
-    return [str(it) for it in json.loads(content).get(SOUGHT, [])]
+def sought_in(content: bytes) -> dict[str, str]:
+    """The files of a report that `as_json` made, with the digest of each that the program got, and none for the others."""
+    found = json.loads(content)
+    given = {str(name): str(it) for name, it in found.get(GIVEN, {}).items()}
+    return {**{str(it): "" for it in found.get(SOUGHT, [])}, **given}
 
 
-def spelled_for(path: str, report: Report, sought: Sequence[str] = ()) -> bytes:
+def spelled_for(path: str, report: Report, sought: Sequence[str] = (), given: Mapping[str, str] | None = None) -> bytes:
     """The report as the name of its file asks for: `.csv`, `.json`, or else the emulator's lines."""
     if path.endswith(".csv"):
         return as_csv(report)
     if path.endswith(".json"):
-        return as_json(report, sought)
+        return as_json(report, sought, given)
     return report.text

@@ -6,7 +6,7 @@ import pathlib
 from dataclasses import dataclass, field, replace
 
 from ..counts import source_listing
-from ..files import content_of
+from ..files import content_of, without_mark
 from ..limits import MOST_TABLE
 from ..outputs import report, report_formats
 from ..refusals import Refused, printable
@@ -43,7 +43,7 @@ def read(path: str, reading: profile.Reading) -> Source:
     """What a file tells; it refuses one that is nothing of this."""
     content = content_of(path, MOST_TABLE)
     try:
-        return replace(understood(printable(pathlib.Path(path).name), content, reading), digest=digest(content))
+        return replace(understood(printable(pathlib.Path(path).name), without_mark(content), reading), digest=digest(content))
     except Refused as refused:
         raise Refused(f"{path}: {refused}") from refused
 

@@ -5,7 +5,7 @@ from __future__ import annotations
 from collections.abc import Sequence
 from typing import Dict, Tuple
 
-from ..files import content_of, write
+from ..files import text_content, write
 from ..refusals import Refused
 
 # Of a file of accepted pairs.
@@ -41,7 +41,7 @@ class Accepted:
 def read(path: str) -> set[Tuple[str, ...]]:
     """The pairs of a file."""
     pairs = set()
-    for number, line in enumerate(content_of(path, MOST_BYTES).decode(errors="replace").splitlines(), 1):
+    for number, line in enumerate(text_content(path, MOST_BYTES).decode(errors="replace").splitlines(), 1):
         words = line.split(maxsplit=2)
         if not words or line.startswith("#"):
             continue

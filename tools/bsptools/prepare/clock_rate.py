@@ -13,6 +13,11 @@ PLACE = b"\0bsprun\5"
 CLOCK = struct.Struct("<IId")
 
 
+def has_clock(content: bytes) -> bool:
+    """Whether the program of an image reads a clock, so that what it costs may depend on prices and rate."""
+    return PLACE in content
+
+
 def with_clock_rate(content: bytes, rate: float) -> bytes:
     """An image whose program reads a clock at so many ticks a second, if it has a place for that; else as it is."""
     at = content.find(PLACE)

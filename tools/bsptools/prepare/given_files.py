@@ -5,6 +5,7 @@ from __future__ import annotations
 import argparse
 import contextlib
 import os
+import re
 import stat
 
 from .. import limits
@@ -13,6 +14,8 @@ from ..refusals import Refused, about
 
 # Of a folder that is given.
 MOST_FILES = 1000
+# Files of one form of name that are given together, and their bytes.
+MOST_TOGETHER, MOST_BYTES = 256, 1 << 22
 # What is no file of a person, and may differ from host to host.
 SYSTEM = ("/proc/", "/sys/", "/dev/")
 
@@ -68,6 +71,19 @@ def is_file(name: str) -> bool:
         is_system = os.path.abspath(name).startswith(SYSTEM)
         return stat.S_ISREG(found.st_mode) and found.st_size <= limits.MOST_INPUT and not is_system and os.access(name, os.R_OK)
     return False
+
+
+def with_others(name: str) -> list[str]:
+    """A name, and those beside it that differ in numbers alone, as part1.txt and part2.txt: a program that reads one of them reads more."""
+    folder, last = os.path.split(name)
+    if not re.search(r"\d", last):
+        return [name]
+    form = re.compile(re.sub(r"\d+", r"\\d+", re.escape(last)))
+    with contextlib.suppress(OSError):
+        others = sorted(it for it in os.listdir(folder or ".") if it != last and form.fullmatch(it))
+        found = [it for it in (os.path.join(folder, other) for other in others[:MOST_TOGETHER]) if is_file(it)]
+        return [name, *(found if sum(map(os.path.getsize, found)) <= MOST_BYTES else [])]
+    return [name]
 
 
 def files_of(folder: str) -> list[str]:

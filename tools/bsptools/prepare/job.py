@@ -184,7 +184,13 @@ def with_block(options: argparse.Namespace, content: bytes, given: bytes | None)
         if MAGIC not in content:
             raise Refused(f"{options.program} takes no arguments and no files: it was not built by this bspcc")
         words = [os.fsencode(word) for word in [options.argv0 or options.program, *options.args]]
-        given = block(words, given_files(options)) + (given or b"")
+        contents = given_files(options)
+        if options.found:
+            from ..sealed_results import digest
+
+            # What a file has may be something else by the end of the run.
+            options.digests = {os.fsdecode(name): digest(content) for name, content in contents if os.fsdecode(name) in options.found}
+        given = block(words, contents) + (given or b"")
     expect_fits(len(given or b""), limits.of(options.large).given)
     return given
 

@@ -38,12 +38,18 @@ def spelled(value: Estimate) -> str:
     return f"{value.low:.4g} to {value.high:.4g}"
 
 
+def expect_table(path: str | None) -> None:
+    """Refuses a file that is there and has something else than lines of machines."""
+    if path is not None and os.path.isfile(path):
+        machines.read(pathlib.Path(path))
+
+
 def add(path: str, lines: list[str]) -> None:
     """Adds lines to a file, in the place of those of the same names."""
     old = ""
+    expect_table(path)
     if os.path.isfile(path):
-        machines.read(pathlib.Path(path))  # so that no other file is taken for one
-        old = files.content_of(path, limits.MOST_TABLE).decode(errors="surrogateescape")
+        old = files.text_content(path, limits.MOST_TABLE).decode(errors="surrogateescape")
     names = {it.split(None, 1)[0] for it in lines}
     kept = [it for it in old.splitlines() if it.split(None, 1)[:1] == [] or it.split(None, 1)[0] not in names]
     text = "".join(f"{it}\n" for it in [*kept, *lines])

@@ -5,7 +5,6 @@ from __future__ import annotations
 import contextlib
 import os
 import pathlib
-import re
 
 from ..outputs import output_records
 from ..outputs.library_notes import ABSENT, ASKED, Note
@@ -13,8 +12,6 @@ from ..outputs.output_records import Record
 from ..prepare.given_files import files_of, given_names, is_file
 from ..prepare.job import Job
 
-# Files of one form of name that are given together, and their bytes.
-MOST_TOGETHER, MOST_BYTES = 256, 1 << 22
 # Names that are noted of those for which a program looks.
 MOST_SOUGHT = 1000
 # How many files are told of, each once, while the run goes on.
@@ -81,16 +78,3 @@ def identity(name: str) -> tuple[int, int] | None:
         found = os.stat(name)
         return found.st_dev, found.st_ino
     return None
-
-
-def with_others(name: str) -> list[str]:
-    """A name, and those beside it that differ in numbers alone, as part1.txt and part2.txt: a program that reads one of them reads more."""
-    folder, last = os.path.split(name)
-    if not re.search(r"\d", last):
-        return [name]
-    form = re.compile(re.sub(r"\d+", r"\\d+", re.escape(last)))
-    with contextlib.suppress(OSError):
-        others = sorted(it for it in os.listdir(folder or ".") if it != last and form.fullmatch(it))
-        found = [it for it in (os.path.join(folder, other) for other in others[:MOST_TOGETHER]) if is_file(it)]
-        return [name, *(found if sum(map(os.path.getsize, found)) <= MOST_BYTES else [])]
-    return [name]

@@ -8,14 +8,14 @@ import json
 import os
 import pathlib
 import shlex
-from collections.abc import Iterable
+from collections.abc import Iterable, Mapping
 from typing import Any, Dict, NamedTuple
 
 from .. import limits, sealed_results
 from ..emulator import proved_program
 from ..files import content_of, named_content, own_content, put
-from ..limits import MOST_INPUT, MOST_PROGRAM
-from ..prepare.given_files import is_file
+from ..limits import MOST_INPUT, MOST_PROGRAM, MOST_TABLE
+from ..prepare.given_files import is_file, with_others
 from ..sealed_results import digest
 from . import result_folders
 from .sweep_points import Run
@@ -32,6 +32,21 @@ def found_now(folder: str, names: Iterable[str]) -> dict[str, str]:
     """The digests of files as a program finds them that is run in a folder, with none for those that are not there."""
     paths = {name: os.path.join(folder, name) for name in names}
     return {name: _digest_at(path, *_identity(path)) if is_file(path) else "" for name, path in paths.items()}
+
+
+def others_now(sought: Mapping[str, str], folder: str = os.curdir) -> list[str]:
+    """The files that are not as they were when a run in a folder looked for them, by their digests; or else those that it would be given now
+    beside them."""
+    now = found_now(folder, sought)
+    changed = [name for name, content in sought.items() if now[name] != content]
+    known = {os.path.join(folder, name) for name in sought}
+    beside = [other for name, content in sought.items() if content for other in with_others(os.path.join(folder, name))]
+    return changed or [it for it in dict.fromkeys(beside) if it not in known]
+
+
+def changed_line(path: str) -> str:
+    """What is told of a file that has changed since a run read it."""
+    return f"{path} has changed since the run began: start the sweep again"
 
 
 def _identity(path: str) -> tuple[int, int, int]:
@@ -65,9 +80,20 @@ class Place(NamedTuple):
     def found(self, copy: str = MAIN) -> Record | None:
         """What came of it; nothing if it was not made, what is kept is not what was written, or a file that its program looked for is another
         one here now."""
+        record = self._kept(copy)
+        return record if record is not None and not others_now(record["sought"]) else None
+
+    def _kept(self, copy: str) -> Record | None:
         record: Record | None = sealed_results.found(self.file("json", copy), self.folder.name)
-        sought = record.get("sought") if record is not None else None
-        return record if sought is not None and found_now(os.curdir, sought) == sought else None
+        return record if record is not None and "sought" in record else None
+
+    def why_unmade(self) -> list[str]:
+        """Lines that say why nothing came of it."""
+        if os.path.lexists(self.file("failed")):
+            return own_content(self.file("failed"), MOST_TABLE).decode(errors="replace").strip().splitlines()
+        record = self._kept(MAIN)
+        others = others_now(record["sought"]) if record is not None else []
+        return [changed_line(it) for it in others] or ["not made: whatever made it has ended before it"]
 
     @property
     def ticket(self) -> pathlib.Path:

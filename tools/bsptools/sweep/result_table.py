@@ -4,11 +4,7 @@ from __future__ import annotations
 
 import csv
 import io
-import os
-import pathlib
 
-from ..files import own_content
-from ..limits import MOST_TABLE
 from ..prices import spelled
 from ..refusals import counted
 from .result_store import Place, Record
@@ -19,10 +15,9 @@ FIRST = ["program", "nodes", "g", "l"]
 MACHINE = "machine"
 
 
-def table(points: list[Point], places: dict[Run, Place], defines: list[str]) -> str:
+def table(points: list[Point], found: dict[Run, Record | None], defines: list[str]) -> str:
     """All points in their order, as CSV: the program with its settings, its costs, its total at the prices, and its outcome. A machine has a
     column if the prices of one are asked for."""
-    found = {run: place.found() for run, place in places.items()}
     costs = next((list(it["costs"]) for it in found.values() if it), ["w", "h"])
     text = io.StringIO()
     rows = csv.writer(text, lineterminator="\n")
@@ -46,22 +41,14 @@ def row(point: Point, found: Record | None, costs: list[str], machine: list[str]
     return [*first, found["supersteps"], *sums.values(), spelled(total), found["outcome"]]
 
 
-def failures(places: dict[Run, Place]) -> list[str]:
+def failures(places: dict[Run, Place], found: dict[Run, Record | None]) -> list[str]:
     """Lines for each run that could not be made."""
-    failed = {run: place.file("failed") for run, place in places.items() if place.found() is None}
-    return [f"{run}: {line}" for run, why in failed.items() for line in reasons(why)]
+    return [f"{run}: {line}" for run, place in places.items() if found[run] is None for line in place.why_unmade()]
 
 
-def stopped(places: dict[Run, Place]) -> list[str]:
+def stopped(found: dict[Run, Record | None]) -> list[str]:
     """A line where runs were made that did not end well, with the first of them."""
-    ends = {run: found["outcome"] for run, place in places.items() if (found := place.found()) is not None}
+    ends = {run: it["outcome"] for run, it in found.items() if it is not None}
     first, *more = [f"{run}: {outcome}" for run, outcome in ends.items() if outcome != "ended"] or [""]
     count = f"{1 + len(more)} of {counted(len(ends), 'run')} did not end well"
     return [f"{count}{', the first one ' if more else ': '}{first}"] if first else []
-
-
-def reasons(why: pathlib.Path) -> list[str]:
-    """The lines that say why a run could not be made."""
-    if not os.path.lexists(why):
-        return ["not made: whatever made it has ended before it"]
-    return own_content(why, MOST_TABLE).decode(errors="replace").strip().splitlines()

@@ -9,6 +9,7 @@ import pathlib
 import signal
 import subprocess
 import time
+from collections.abc import Mapping
 from typing import Any
 
 from .. import children, emulator
@@ -19,7 +20,7 @@ from ..outputs.output_records import writes_files
 from ..outputs.report_formats import read, sought_in
 from ..refusals import REFUSED, Refused
 from ..sealed_results import digest
-from .result_store import Place, Record, found_now
+from .result_store import Place, Record, changed_line, others_now
 
 # At these prices the total is the sum of all w, all h and the number of supersteps.
 PRICES = ["--g", "1", "--l", "1"]
@@ -42,13 +43,14 @@ def make(folder: str, copy: str) -> int:
         done = children.call(words, stdout=subprocess.PIPE, stderr=subprocess.PIPE, cwd=job["folder"], env=environment)
         content = report.read_bytes() if report.exists() else b""
     put(place.file("seconds", copy), f"{time.monotonic() - start:.3f}\n")
-    other = changed(job)
+    sought = sought_in(content) if content else {}
+    other = changed(job, sought)
     if not content or other:
         said = done.stderr.decode(errors="replace").strip() or f"bsprun has ended with status {done.returncode}, and no report"
         put(place.file("failed", copy), other or said + "\n")
         return REFUSED
     place.file("failed", copy).unlink(missing_ok=True)
-    place.keep({**record(content, done), "sought": found_now(job["folder"], sought_in(content))}, copy)
+    place.keep({**record(content, done), "sought": sought}, copy)
     return 0
 
 
@@ -63,12 +65,13 @@ def described(place: Place) -> dict[str, Any]:
     raise Refused(f"{place.job} does not describe a run: start the sweep again")
 
 
-def changed(job: dict[str, Any]) -> str:
-    """A line where a file that a run rests on is not what it was when the sweep began."""
+def changed(job: dict[str, Any], sought: Mapping[str, str]) -> str:
+    """A line where a file that a run rests on is not what it was when the sweep began; or, of those that its program looked for, when it was
+    read."""
     for path, known in job["digests"]:
         if digest(content_of(os.path.join(job["folder"], path), MOST_PROGRAM)) != known:
             return f"{path} has changed since the sweep began: start the sweep again\n"
-    return ""
+    return "".join(f"{changed_line(it)}\n" for it in others_now(sought, job["folder"]))
 
 
 def record(report: bytes, done: subprocess.CompletedProcess[bytes]) -> Record:

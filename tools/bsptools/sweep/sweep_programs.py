@@ -28,7 +28,8 @@ STRIP = ["riscv64-unknown-elf-objcopy", "--strip-debug", "--remove-section=.bspc
 
 class Program(NamedTuple):
     """A program as it was named, the constants that it was compiled with, the image that is run, and what kind of file that is; or in lines
-    why there is no image. Whether it was compiled here comes last, with the headers that are the user's own."""
+    why there is no image. Whether it was compiled here comes last, with the headers that are the user's own, and the digests of all that is
+    compiled, by its names."""
 
     name: str
     defines: tuple[tuple[str, str], ...]
@@ -37,6 +38,7 @@ class Program(NamedTuple):
     why: tuple[str, ...] = ()
     is_compiled: bool = False
     headers: tuple[str, ...] = ()
+    texts: tuple[tuple[str, str], ...] = ()
 
 
 def programs(options: argparse.Namespace, folder: pathlib.Path) -> list[Program]:
@@ -53,11 +55,25 @@ def programs(options: argparse.Namespace, folder: pathlib.Path) -> list[Program]
             found += [compiled(name, choice, options, folder) for choice in choices]
         else:
             found.append(Program(name, (), pathlib.Path(name).resolve(), kind))
+    expect_same_texts(found)
     lines = told(found)
     if all(it.why for it in found):
         raise Refused(*lines)
     tell(lines, "bspsweep: ")
     return found
+
+
+def expect_same_texts(them: list[Program]) -> None:
+    """Refuses a text that was edited while programs were compiled: there would be runs of both in one table."""
+    known: dict[str, str] = {}
+    for name, found in [*(text for it in them for text in it.texts), *((name, digest_of(name)) for it in them for name, _ in it.texts)]:
+        if known.setdefault(name, found) != found:
+            raise Refused(f"{name} has changed while it was compiled: start the sweep again")
+
+
+def digest_of(name: str) -> str:
+    """The digest of a text."""
+    return digest(content_of(name, MOST_PROGRAM))
 
 
 def told(them: list[Program]) -> list[str]:
@@ -76,7 +92,7 @@ def compiled(name: str, defines: tuple[tuple[str, str], ...], options: argparse.
     """A program in C, whose executable has a name that follows from its bytes, and these do not follow from the folder that it lies in."""
     constants = [f"-D{constant}={value}" for constant, value in defines]
     stack = ["--stack", str(options.stack)] if options.stack else []
-    source = os.path.abspath(name)
+    source, text = os.path.abspath(name), digest_of(name)
     with children.folder("bspsweep") as temp:
         target, made_of = temp / "program.elf", temp / "made-of"
         words = [emulator.program("bspcc"), *constants, *stack, f"-ffile-prefix-map={os.path.dirname(source)}=.", "-MMD", "-MF", str(made_of)]
@@ -87,11 +103,13 @@ def compiled(name: str, defines: tuple[tuple[str, str], ...], options: argparse.
             if done.returncode != 0:
                 break
         if done.returncode != 0:
-            return Program(name, defines, why=(f"{' '.join([name, *constants])} was not compiled", *lines_of(done.stdout, source)), is_compiled=True)
+            why = (f"{' '.join([name, *constants])} was not compiled", *lines_of(done.stdout, source))
+            return Program(name, defines, why=why, is_compiled=True, texts=((name, text),))
         content, headers = content_of(target, MOST_PROGRAM), headers_of(name, made_of)
     image = result_folders.part(folder, "programs") / f"{pathlib.Path(name).stem}-{digest(content)[:16]}.elf"
     put(image, content)
-    return Program(name, defines, image, "elf", is_compiled=True, headers=headers)
+    texts = ((name, text), *((it, digest_of(it)) for it in headers))
+    return Program(name, defines, image, "elf", is_compiled=True, headers=headers, texts=texts)
 
 
 def headers_of(name: str, made_of: pathlib.Path) -> tuple[str, ...]:

@@ -96,7 +96,7 @@ def made(options: argparse.Namespace, words: list[str], points: list[Point], sto
     found["tools"] = {"sha256": store.tools}
     if any(it.is_compiled for it in programs):
         found["compiler"] = {"version": emulator.said(emulator.program("bspcc"), "--version").splitlines()[-1]}
-    found["programs"] = {it.name: {"sha256": store.digest_of(it.name, MOST_PROGRAM)} for it in programs}
+    found["programs"] = {it.name: {"sha256": store.digest_of(it.name if it.is_compiled else str(it.image), MOST_PROGRAM)} for it in programs}
     headers = sorted({name for it in programs for name in it.headers})
     if headers:
         found["headers"] = {name: {"sha256": store.digest_of(name, MOST_PROGRAM)} for name in headers}
@@ -104,7 +104,7 @@ def made(options: argparse.Namespace, words: list[str], points: list[Point], sto
     given: list[str] = [*(options.input or []), *options.file, *(it for words in options.args or [] for it in files_named(words))]
     found["files"] = {name: {"sha256": store.digest_of(name, MOST_INPUT)} for name in given if name}
     found["files"].update({name: {"sha256": it} for name, it in sorted(sought.items()) if it})
-    found[MACHINES] = {name: {"sha256": digest(files.content_of(path, MOST_TABLE))} for name, path in machine_tables(options)}
+    found[MACHINES] = {name: {"sha256": store.digest_of(path, MOST_TABLE)} for name, path in machine_tables(options)}
     found[TABLE] = {"sha256": digest(table.encode(errors="surrogateescape"))}
     return found
 

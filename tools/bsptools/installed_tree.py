@@ -2,14 +2,19 @@
 
 The record is written before anything else. New files stand beside the old ones until all are there; then each gets its name. So what is
 broken off before that leaves the installation of before, and what is killed in any place can be made again, and be taken away.
+
+A name becomes this script's when its file gets it. So before files get their names, the record of the change lists the digest of each.
+After a kill, only a file with just that content counts as installed. Another package may have put a file at such a name.
 """
 
 from __future__ import annotations
 
 import contextlib
 import fcntl
+import hashlib
 import os
 import pathlib
+import re
 import shutil
 import signal
 import stat
@@ -24,6 +29,11 @@ FRONT, NEW = ".", ".bspemu-new"
 # The bytes of a record, and the folders of a name in it. An installation has some 40,000 bytes, and 8 folders.
 MOST_RECORD, MOST_FOLDERS = 1 << 20, 64
 FOLDER_MODE, PROGRAM_MODE, FILE_MODE = 0o755, 0o755, 0o644
+# A line of a change's record for a name that is not this script's yet: the digest of what gets the name, and the name.
+PROMISE = re.compile(r"((?:file|link)=[0-9a-f]{64}) (.+)")
+# The bytes of a file that are read at a time for its digest.
+BLOCK = 1 << 20
+EXISTS = "already exists, and this script did not install it"
 
 
 class Tree:
@@ -36,20 +46,34 @@ class Tree:
         self.files: list[str] = []
         self.folders: list[str] = []
         self._made: list[str] = []
+        # The names that are recorded, and for others the digests of what a change was about to put there.
+        self._known: set[str] = set()
+        self._promised: dict[str, set[str]] = {}
         self._is_finishing = False
         self._lock = -1
 
     # What was recorded.
 
     def recorded(self) -> list[str]:
-        """What the record lists, and what a change that was broken off was about to make. A name that leads out of the prefix is refused."""
+        """What the record lists, and what a change that was broken off has made. A name that leads out of the prefix is refused."""
         names: list[str] = []
+        promised: dict[str, set[str]] = {}
         for record in (self.record, self.journal):
             if (self.root / record).is_file():
                 self._expect_below([record])
                 names += files.named_content(self.root / record, MOST_RECORD).decode(errors="surrogateescape").splitlines()
-        self._expect_below(names)
-        return list(dict.fromkeys(names))
+        for promise in filter(None, map(PROMISE.fullmatch, names)):
+            promised.setdefault(promise[2], set()).add(promise[1])
+        names = [it for it in names if not PROMISE.fullmatch(it)]
+        self._expect_below([*names, *promised])
+        self._known = set(names)
+        # Of those, only what is there counts. The others need not be kept.
+        self._promised = {it: {digest(self.root / it)} & digests for it, digests in promised.items()}
+        return list(dict.fromkeys([*names, *filter(self._promised.get, self._promised)]))
+
+    def _is_own(self, name: str) -> bool:
+        """Whether what has a name now is recorded, or is what a change that was broken off has put there."""
+        return name in self._known or name in self._promised and digest(self.root / name) in self._promised[name]
 
     def _expect_below(self, names: Iterable[str]) -> None:
         """Refuses names that lead out of the prefix, by themselves or by a link on the way. Folders above it may be named."""
@@ -99,7 +123,7 @@ class Tree:
         for name in sorted(names):
             path = self.root / name
             if os.path.lexists(path) and (name not in known or path.is_dir() and not path.is_symlink()):
-                raise Refused(f"{path} already exists, and this script did not install it")
+                raise Refused(f"{path} {EXISTS}")
 
     # Changes.
 
@@ -145,26 +169,56 @@ class Tree:
         self._take_lock()
         for name in filter(is_new, known):
             (self.root / name).unlink(missing_ok=True)
+        plain, promises = [it for it in known if it in self._known], promises_of(self._promised)
         missing = [it for name in self.files for it in self._folders_of(name) if not os.path.isdir(self.root / it)]
         folders = [it for it in known if it.endswith("/")]
-        lines = dict.fromkeys([*folders, *self.folders, *missing, *known, *self.files, *map(new_name, [*self.files, self.record, self.journal])])
+        new = map(new_name, [*self.files, self.record, self.journal])
         self.folders = [it for it in dict.fromkeys([*folders, *self.folders, *missing])]
         (self.root / new_name(self.journal)).unlink(missing_ok=True)
-        self.write(self.journal, "".join(f"{it}\n" for it in lines))
+        self._list([*self.folders, *plain, *new, *promises])
+
+    def _list(self, lines: Iterable[str]) -> None:
+        """Replaces the record of the change."""
+        self.write(self.journal, "".join(f"{it}\n" for it in dict.fromkeys(lines)))
         os.replace(self._place(self.journal), self.root / self.journal)
         self._made.remove(self.journal)
+
+    def _promise(self, names: Iterable[str]) -> None:
+        """Lists what is about to get its name, and looks once more whether another package has put something there meanwhile."""
+        listed = files.named_content(self.root / self.journal, MOST_RECORD).decode(errors="surrogateescape").splitlines()
+        self._list([*listed, *promises_of({it: {digest(self._place(it))} for it in names if it not in self._known})])
+        self.expect_room(names)
+
+    def _give_name(self, name: str) -> None:
+        """Gives a new file its name. What another package has put there since the last look is not replaced."""
+        place, path = self._place(name), self.root / name
+        if self._is_own(name):
+            os.replace(place, path)
+            return
+        try:
+            os.link(place, path, follow_symlinks=False)
+        except FileExistsError as error:
+            raise Refused(f"{path} {EXISTS}") from error
+        except OSError as error:
+            # Some file systems have no hard links.
+            if os.path.lexists(path):
+                raise Refused(f"{path} {EXISTS}") from error
+            os.replace(place, path)
+        else:
+            place.unlink()
 
     def _finish(self, known: list[str]) -> None:
         """Gives all files their names, takes away what the installation of before had more, and keeps the record."""
         made = [it for it in self.files if it in self._made]
         folders = [it for it in self.folders if is_above(it) or any(name.startswith(it) for name in (*made, self.record))]
         self.write(self.record, "".join(f"{it}\n" for it in [*folders, *made, self.record]))
+        self._promise(made)
         mask = signal.pthread_sigmask(signal.SIG_BLOCK, {signal.SIGINT, *children.SIGNALS})
         self._is_finishing = True
         try:
             for name in made:
-                os.replace(self._place(name), self.root / name)
-            more = {it for it in known if not is_new(it)}
+                self._give_name(name)
+            more = {it for it in known if not is_new(it) and self._is_own(it)}
             self._take_away(more.difference(made, folders, [self.record, self.journal]))
             os.replace(self._place(self.record), self.root / self.record)
             (self.root / self.journal).unlink()
@@ -263,6 +317,28 @@ def new_name(name: str) -> str:
     """The name of a new file, until it gets its own."""
     folder, last = os.path.split(name)
     return os.path.join(folder, f"{FRONT}{last}{NEW}")
+
+
+def digest(path: pathlib.Path) -> str:
+    """A digest of a file or of a link's target; nothing if it cannot be read, or is something else."""
+    try:
+        if path.is_symlink():
+            return f"link={hashlib.sha256(os.fsencode(os.readlink(path))).hexdigest()}"
+        # A pipe or a device may have no end.
+        if not path.is_file():
+            return ""
+        found = hashlib.sha256()
+        with os.fdopen(os.open(path, os.O_RDONLY | os.O_NOFOLLOW | os.O_NONBLOCK), "rb") as file:
+            for block in iter(lambda: file.read(BLOCK), b""):
+                found.update(block)
+        return f"file={found.hexdigest()}"
+    except OSError:
+        return ""
+
+
+def promises_of(digests: dict[str, set[str]]) -> list[str]:
+    """The lines of a change's record for names, by the digests of what gets each."""
+    return [f"{it} {name}" for name, them in digests.items() for it in sorted(them)]
 
 
 def is_new(name: str) -> bool:

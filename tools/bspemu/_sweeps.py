@@ -58,7 +58,7 @@ def sweep(
     interpolate : {"linear"}, optional
         Take prices of machines between the numbers of nodes that were measured.
     defines : mapping, optional
-        Values of compile-time constants of C programs: ``{"N": [64, 128]}``.
+        Values of compile-time constants of C programs: ``{"N": [64, 128]}``. No name may be that of another column of the table.
     args : iterable of str
         Arguments of `main`, as a shell parts them; each is tried.
     inputs : iterable of paths

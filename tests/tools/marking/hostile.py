@@ -235,6 +235,40 @@ def hidden(tally: Tally, folder: pathlib.Path) -> None:
         tally.expect(f"calls of {name}", found.get(name) == wanted, (found.get(name), done.stderr))
 
 
+# Calls that GCC replaces, or makes of others, by what a sheet says of them, with the verdicts.
+REPLACED = {
+    'require = ["printf"]': {"prints.c": "right", "puts.c": "not allowed", "built_in.c": "right"},
+    'forbid = ["puts"]': {"prints.c": "right", "puts.c": "not allowed"},
+    'forbid = ["printf", "memcpy", "fabs", "malloc", "strlen"]': {
+        "puts.c": "right", "prints.c": "not allowed", "built_in.c": "not allowed", "looks.c": "not allowed", "copies.c": "not allowed",
+        "fabs.c": "not allowed", "malloc.c": "not allowed", "strlen.c": "not allowed", "first_value.c": "not allowed", "in_comment.c": "right",
+    },
+}  # fmt: skip
+CALLS = {
+    "puts.c": 'puts("it");', "prints.c": 'printf("it\\n");', "built_in.c": '__builtin_printf("it\\n");',
+    "looks.c": '\n#if __has_include("program0.o")\nputs("it");\n#else\nprintf("it\\n");\n#endif\n',
+    "copies.c": 'char it[4]; memcpy(it, "it", 3); puts(it);', "fabs.c": 'volatile double it = -1; puts(fabs(it) > 0 ? "it" : "");',
+    "malloc.c": 'char *it = malloc(3); it[0] = 0; free(it); puts("it");', "strlen.c": 'puts(strlen("it") == 2 ? "it" : "");',
+    "first_value.c": 'puts(FIRST > 0 ? "it" : "");', "in_comment.c": '/* printf("it") */ puts(FIRST > 0 ? "it" : "");',
+}  # fmt: skip
+# First values that are constants only where GCC knows what a function computes.
+FIRST = {"first_value.c": "static double FIRST = fabs(-1.0);", "in_comment.c": "static double FIRST = sqrt(4.0);"}
+
+
+def replaced(tally: Tally, folder: pathlib.Path) -> None:
+    """A call counts as the hand-in makes it, also where GCC replaces it by a call of another function, or by none."""
+    bench = Bench(folder / "replaced")
+    bench.write("it.txt", "it\n")
+    for name, text in CALLS.items():
+        bench.write(name, PROGRAM % ("#include <math.h>\n#include <stdlib.h>\n#include <string.h>\n" + FIRST.get(name, ""), text))
+    for rule, wanted in REPLACED.items():
+        bench.write("sheet.toml", f'nodes = [1]\nexpected = "it.txt"\n{rule}\n')
+        done = bench.run("sheet.toml", *wanted, words=["-o", "m.csv"])
+        rows = bench.rows("m.csv") if done.returncode == NOT_ALL_RIGHT else []
+        found = {it["hand-in"]: it["verdict"] for it in rows}
+        tally.expect(f"calls that GCC replaces, by {rule}", found == wanted, (rows, done.stderr))
+
+
 # A sheet with points for warnings, what has one, and what hides it in a line, with what is told of that.
 WARNS_SHEET = """nodes = [1]
 expected = "it.txt"
@@ -513,6 +547,7 @@ def parts(tally: Tally, folder: pathlib.Path) -> List[Part]:
         Part("searches without an end", lambda: unsearched(tally, folder), wanted),
         Part("names of hand-ins", lambda: names(tally, folder), wanted),
         Part("calls that are hidden", lambda: hidden(tally, folder), wanted),
+        Part("calls that are replaced", lambda: replaced(tally, folder), wanted),
         Part("warnings that are hidden", lambda: hides(tally, folder), wanted),
         Part("texts without an end", lambda: endless(tally, folder), wanted),
         Part("commands that make a run again", lambda: repeated(tally, folder), wanted),

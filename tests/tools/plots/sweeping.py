@@ -11,6 +11,7 @@ import shlex
 import shutil
 import signal
 import subprocess
+import sys
 import threading
 import time
 from fractions import Fraction
@@ -18,7 +19,7 @@ from typing import Any, Callable, Dict, List, Mapping, Optional, Sequence, Set
 
 import cluster
 from base import PARALLEL, REPO, Check, Parts
-from checks import COMPILER, Part
+from checks import COMPILER, SECONDS, Part
 
 from bsptools import sealed_results
 from bsptools.sweep.result_store import Place
@@ -638,6 +639,10 @@ def refusals(check: Check) -> None:
         ("--nodes", "4:x", PROGRAMS[0]): "bspsweep: argument -n/--nodes: 'x'",
         ("--prices", "4", PROGRAMS[0]): "bspsweep: argument --prices: '4': give prices as G:L",
         ("--define", "N", PROGRAMS[0]): "bspsweep: argument --define: 'N': give a constant as",
+        **{
+            ("--define", f"{it}=1,2", PROGRAMS[0]): f"bspsweep: argument --define: '{it}=1,2': {it} is a column of the table already: choose another"
+            for it in ("program", "nodes", "g", "l", "machine", "input", "args", "supersteps", "w", "h", "m", "total", "outcome")
+        },
         ("--define", "N=1", PROGRAMS[0]): f"bspsweep: {PROGRAMS[0]} is compiled already: --define is for programs in C",
         ("--args", "'", PROGRAMS[0]): "bspsweep: argument --args: \"'\": No closing quotation",
         ("--nodes", "1:1000", "--g", "1:1000", PROGRAMS[0]): "bspsweep: the sweep has 1000000 points; the limit is 100000",
@@ -650,6 +655,12 @@ def refusals(check: Check) -> None:
     for words, text in tried.items():
         done = check.tool("bspsweep", *words)
         check.expect(f"bspsweep {' '.join(words)}", done.returncode == 1 and text in done.stderr, done.stderr)
+    code = "import bspemu\ntry:\n    bspemu.sweep('ring.c', defines={'m': [1, 2]})\nexcept bspemu.BspError as error:\n    print(error)\n"
+    told = subprocess.run(
+        [sys.executable, "-B", "-c", code], cwd=check.folder, env={**os.environ, "PYTHONPATH": str(REPO / "tools")},
+        stdin=subprocess.DEVNULL, capture_output=True, text=True, timeout=SECONDS, check=False,
+    )  # fmt: skip
+    check.expect("a column as a constant in Python", "m is a column of the table already: choose another name" in told.stdout, told)
 
 
 def ended(check: Check) -> None:

@@ -64,6 +64,8 @@ def constant(text: str) -> tuple[str, list[str]]:
     name, values = pair(text, "a constant as NAME=VALUE,VALUE,..")
     if not name.isidentifier():
         raise argparse.ArgumentTypeError(f"{text!r}: {name!r} is not the name of a constant")
+    if name in result_table.COLUMNS:
+        raise argparse.ArgumentTypeError(f"{text!r}: {name} is a column of the table already: choose another name for the constant")
     return name, list(dict.fromkeys(values.split(",")))
 
 

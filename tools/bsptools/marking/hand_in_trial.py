@@ -12,7 +12,7 @@ import re
 import signal
 from collections.abc import Collection, Iterator, Mapping, Sequence
 from dataclasses import dataclass, field
-from typing import Dict, List, Optional, Pattern, Tuple
+from typing import Dict, List, Optional, Pattern, Set, Tuple
 
 from .. import emulator, limits, memory_bound
 from ..counts import step_counts
@@ -67,6 +67,13 @@ UNTRIED = "not portable: it fails if it is compiled for this trial, with the sam
 SAFE = re.compile(r"[A-Za-z_][\w.-]{0,80}\.(?:c|cc|cpp|cxx)", re.ASCII)
 # A piece without an end matches, too: else each of very many would be looked through up to the end of the text.
 COMMENTS = re.compile(r"//(?:\\\n|[^\n])*|/\*.*?(?:\*/|\Z)|\"(?:\\.|[^\"\\\n])*\"?|'(?:\\.|[^'\\\n])*'?", re.DOTALL)
+# GCC replaces a call that it knows by another, such as printf by puts, and a loop by memset. The C library's header machine/math.h replaces
+# fabs by an instruction. With these options nothing is replaced, and no warning is printed.
+UNREPLACED = ("-fno-builtin", "-fno-tree-loop-distribute-patterns", "-D_MACHINE_MATH_H_", "-w")
+# What GCC may call where a text does not, so a name of these in the linked object says nothing of the text.
+REPLACING = frozenset(
+    "puts putchar fputs fputc putc fwrite memcpy memmove memset memcmp strlen strcpy stpcpy strncpy strcat strchr strcmp calloc sqrt sqrtf exp2 exp2f".split()
+)
 # What the linker puts in front of the name of a function of the library that bspcc has wrapped.
 OTHER_NAME = re.compile("^__(?:wrap|real)_")
 
@@ -159,8 +166,8 @@ class Trial:
     # The compiler.
 
     def built(self, defines: Tuple[Tuple[str, str], ...], number: int) -> pathlib.Path:
-        """The executable for these constants. If the sheet names calls, they are looked for in the object that it is linked from: the text
-        may be another one with other constants, or as it is compiled once more."""
+        """The executable for these constants. If the sheet names calls, they are looked for in the object that it is linked from, since the
+        text may be another one with other constants, or as it is compiled once more; and in one in which GCC has replaced no call."""
         target = self.folder / f"program{number}.elf"
         room = limits.STACK if self.plan.memory >= limits.MEMORY_OF_STACK else limits.COMPILED_STACK
         linking = ("-o", target.name, "-g", "--stack", str(room))
@@ -168,8 +175,9 @@ class Trial:
             self.compile([*self.compiler(defines, self.name, *linking), "-lm"], target, number)
             return target
         part = target.with_suffix(".o")
+        called = self.unreplaced(defines, part)
         if self.compile(self.compiler(defines, self.name, "-c", "-o", part.name, "-g"), part, number):
-            self.find_calls(part)
+            self.find_calls(part, called)
             self.compile([*self.compiler((), part.name, *linking), "-lm"], target, number)
         return target
 
@@ -214,17 +222,39 @@ class Trial:
         constants = [f"-D{name}={value}" for name, value in defines]
         return [emulator.program("bspcc"), *options, *warnings, "-fdiagnostics-color=never", *constants, source]
 
-    def find_calls(self, part: pathlib.Path) -> None:
-        """Which of the calls that the sheet names an object of the hand-in's own code names, each with its line, or 0 if the text does not
-        have it."""
-        names = {OTHER_NAME.sub("", it) for it in elf.names(content_of(part, limits.MOST_PROGRAM))}
-        if not names:
+    def unreplaced(self, defines: Tuple[Tuple[str, str], ...], part: pathlib.Path) -> Set[str]:
+        """The names in an object in which GCC has replaced no call. It is written before the object that is linked, under the same name, and
+        removed, so that no text can ask for a file to learn for which of the two it is compiled. Some right texts are compiled only where GCC
+        knows what a function computes, as for the first value of a variable: then these are the names that the text calls."""
+        # The headers of C++ call such names themselves, as __builtin_strlen.
+        known = [it for it in self.plan.calls if it.isidentifier() and self.name.endswith(".c")]
+        words = self.compiler(defines, self.name, "-c", "-o", part.name, *UNREPLACED, *(f"-D__builtin_{it}={it}" for it in known))
+        ran = bounded_run.run(words, COMPILER_SECONDS, MOST_COMPILED, compiler_environment(self.folder))
+        if ran.how == bounded_run.ENDED and ran.status == 0 and part.is_file():
+            names = names_of(part)
+            part.unlink()
+            return names
+        part.unlink(missing_ok=True)
+        said = cut(ran.said.decode(errors="replace").splitlines())
+        self.found.lack = self.found.lack or (SLOW if ran.how == bounded_run.LATE else next(filter(self.is_lack, said), ""))
+        text = self.bare_text()
+        return {it for it in self.plan.calls if re.search(rf"\b(?:__builtin_)?{re.escape(it)}\s*\(", text)}
+
+    def find_calls(self, part: pathlib.Path, called: Set[str]) -> None:
+        """Which of the calls that the sheet names the hand-in makes, each with its line, or 0 if the text does not have it: by the object that
+        is linked, but for names that GCC may have put there, and by the names that are called where it replaces nothing."""
+        linked = names_of(part)
+        if not linked:
             raise Refused(f"{part.name} has no names of functions")
-        text = COMMENTS.sub(lambda it: re.sub(r"[^\n]", " ", it[0]), self.text.decode(errors="replace"))
+        text = self.bare_text()
         for name in self.plan.calls:
-            if name in names:
-                found = re.search(rf"\b{re.escape(name)}\b", text)
+            if name in called or name in linked - REPLACING:
+                found = re.search(rf"\b(?:__builtin_)?{re.escape(name)}\b", text)
                 self.found.calls[name] = text.count("\n", 0, found.start()) + 1 if found else 0
+
+    def bare_text(self) -> str:
+        """The hand-in's text, with blanks for comments and strings."""
+        return COMMENTS.sub(lambda it: re.sub(r"[^\n]", " ", it[0]), self.text.decode(errors="replace"))
 
     # Runs.
 
@@ -371,6 +401,11 @@ class Trial:
             self.found.is_portable = found is not None and not found.found
             return
         self.lacks("the trial of what BSPlib leaves open")
+
+
+def names_of(part: pathlib.Path) -> Set[str]:
+    """The names in an object, as the text has them."""
+    return {OTHER_NAME.sub("", it) for it in elf.names(content_of(part, limits.MOST_PROGRAM))}
 
 
 def last_name(path: str) -> str:

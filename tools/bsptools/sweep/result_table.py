@@ -13,6 +13,9 @@ from .sweep_points import Point, Run
 FIRST = ["program", "nodes", "g", "l"]
 # The column of a table in which machines have prices.
 MACHINE = "machine"
+INPUTS = ["input", "args"]
+# All columns but those of constants, so no constant may have such a name.
+COLUMNS = (*FIRST, MACHINE, *INPUTS, "supersteps", "w", "h", "m", "total", "outcome")
 
 
 def table(points: list[Point], found: dict[Run, Record | None], defines: list[str]) -> str:
@@ -22,7 +25,7 @@ def table(points: list[Point], found: dict[Run, Record | None], defines: list[st
     text = io.StringIO()
     rows = csv.writer(text, lineterminator="\n")
     has_machines = any(it.machine for it in points)
-    rows.writerow([*FIRST, *[MACHINE] * has_machines, "input", "args", *defines, "supersteps", *costs, "total", "outcome"])
+    rows.writerow([*FIRST, *[MACHINE] * has_machines, *INPUTS, *defines, "supersteps", *costs, "total", "outcome"])
     for point in points:
         rows.writerow(row(point, found.get(point.run), costs, [point.machine] * has_machines, defines))
     return text.getvalue()

@@ -7,7 +7,7 @@
 -- word and no SC and no environment call came since. Others write to the memory of this node by its calls and while it waits at `sync`, so
 -- until a call no write of another hart or device is to be observed (section 8.2), and aq and rl ask for no more than the order of the
 -- program (section 8.1). The hart's own stores leave its reservation.
-use Rattle.std.specs.Prelude.{◌≡◌, ℕ, ◌%◌, ◌==◌, Bool, false, List, length, IsTrue, if◌then◌else◌, Option, Some, None}
+use Rattle.std.specs.Prelude.{ℕ, ◌%◌, ◌==◌, Bool, false, List, length, IsTrue, if◌then◌else◌, Option, Some, None}
 use Rattle.node_memory.specs.Bytes.{fits, word_at}
 use Rattle.node_memory.specs.Pages.{Owns}
 use Rattle.rv_atomics.specs.declared.instr.AmoOp.{AmoOp}

@@ -29,7 +29,7 @@
 //! - If a page of its range is shared, a store takes memory for a copy of it. A page that is private stays so, and a store over the edge of
 //!   two pages owns both before it changes a byte.
 //! - Code is decoded once: the pages that the image's bytes reach, when its first node is made, for that node and all that share with
-//!   it. A node steps over what was decoded for as long as a page is not private, and this shows in no contract: whoever writes into
+//!   it. A node steps over a block of pages for as long as none of them is private, and this shows in no contract: whoever writes into
 //!   code runs what it wrote, at once.
 //! - [`Node::try_clone`] gives the same node once more, and [`Node::share`] that of another rank. The memories share their pages, and
 //!   what one of the nodes does shows in none of the others.

@@ -7,6 +7,7 @@ import json
 import os
 import pathlib
 import subprocess
+import time
 import zlib
 from typing import Dict, Iterator, List, Tuple
 
@@ -101,8 +102,8 @@ def faults(page: devtools.Page, path: pathlib.Path, program: str) -> Iterator[Tu
     look = Look(page, path.as_uri(), program)
     look.forget(True)
     checks = (
-        starts, runs, compiled, refuses, fails, many, settings, steps, points, places, still, links, long_links, keeps, ends, hostile, drops,
-        keys, focus, named, prints, widths,
+        starts, runs, compiled, refuses, fails, many, settings, steps, points, places, still, links, long_links, keeps, ends, blank_lines, hostile,
+        drops, keys, focus, named, prints, widths,
     )  # fmt: skip
     for check in checks:
         look.page.look(WIDTHS[1], 900)
@@ -340,6 +341,15 @@ def ends(look: Look) -> str:
     said = look.page.run(STATUS)
     look.write("li a7, 1\necall\n")
     return "" if was_busy and said == "You stopped it." and look.do("run").startswith("ended") else f"{was_busy} {said}"
+
+
+def blank_lines(look: Look) -> str:
+    """A program may have very many lines without anything: the page looks through each of them once, before it runs."""
+    look.write("\n" * 40000 + "li a7, 1\necall\n")
+    begin = time.monotonic()
+    said = look.do("run")
+    taken = time.monotonic() - begin
+    return "" if said.startswith("ended") and taken < 8 else f"{said}, {taken} seconds"
 
 
 def hostile(look: Look) -> str:

@@ -103,12 +103,18 @@ def came_last() -> int | None:
 @contextlib.contextmanager
 def held() -> Iterator[None]:
     """A block in which the processes that this one has started are stopped."""
-    running = [child for child in list(_running) if child.poll() is None]
-    _signal_all(running, signal.SIGSTOP)
+    running = tell_running(signal.SIGSTOP)
     try:
         yield
     finally:
         _signal_all(running, signal.SIGCONT)
+
+
+def tell_running(number: int) -> list[subprocess.Popen[bytes]]:
+    """Sends a signal to the processes that this one has started, with their groups, and answers which these are."""
+    running = [child for child in list(_running) if child.poll() is None]
+    _signal_all(running, number)
+    return running
 
 
 def _signal_all(children: Sequence[subprocess.Popen[bytes]], number: int) -> None:
@@ -461,7 +467,10 @@ def removed(path: str) -> contextlib.AbstractContextManager[object]:
 
 
 def call(words: Sequence[str], by: int = signal.SIGTERM, **given: Any) -> subprocess.CompletedProcess[bytes]:
-    """Runs a process to its end, with nothing to read."""
+    """Runs a process to its end, with nothing to read. Signals are looked for each second: one that comes as this process reads, or just before
+    it waits, does Python put off until that is over."""
     with kept_running(words, by, stdin=subprocess.DEVNULL, **given) as child:
-        stdout, stderr = child.communicate()
-        return subprocess.CompletedProcess(list(words), child.returncode, stdout, stderr)
+        while True:
+            with contextlib.suppress(subprocess.TimeoutExpired):
+                stdout, stderr = child.communicate(timeout=1)
+                return subprocess.CompletedProcess(list(words), child.returncode, stdout, stderr)

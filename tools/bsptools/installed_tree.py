@@ -117,10 +117,13 @@ class Tree:
                 raise Refused(f"{path} is a folder that all users may write to: change that, or give a folder of yours by --prefix")
 
     def expect_room(self, names: Iterable[str]) -> None:
-        """Refuses to write over a file that is there and is not recorded, and over a folder."""
+        """Refuses to write over a file that is there and is not recorded, and over a folder; and a name that the record cannot have in one
+        line, a part of which would be taken for a file of somebody else."""
         known = set(self.recorded())
         self._expect_below(names)
         for name in sorted(names):
+            if name.splitlines() != [name]:
+                raise Refused(f"{name!r} has more than one line, and the record of what is installed has a line for each file: rename it")
             path = self.root / name
             if os.path.lexists(path) and (name not in known or path.is_dir() and not path.is_symlink()):
                 raise Refused(f"{path} {EXISTS}")

@@ -57,7 +57,7 @@ def is_held(path: str | os.PathLike[str]) -> bool:
 
 
 def expect_held(path: str | os.PathLike[str]) -> None:
-    """Refuses a new folder in one where others may rename what is there: while it is filled, a link could take its place."""
+    """Refuses a folder in one where others may rename what is there: while it is filled, a link could take its place, and later another one."""
     above = next(filter(os.path.exists, pathlib.Path(path).absolute().parents))
     if not is_held(above):
         raise Refused(f"other users may rename files in {above}: give another folder")

@@ -68,6 +68,17 @@ def printable(text: str) -> str:
     return "".join(it if it.isprintable() or it == "\t" else it.encode("unicode_escape", "replace").decode() for it in text)
 
 
+def typed(words: Iterable[str]) -> str:
+    """Words as one types them in bash. What cannot be printed, as the bytes of a name that is no text, is spelled by its bytes."""
+    import shlex
+
+    def spelled(letter: str) -> str:
+        is_plain = letter.isprintable() and letter not in "\\'"
+        return letter if is_plain else "".join(f"\\x{it:02x}" for it in letter.encode(errors=LONE))
+
+    return " ".join(shlex.quote(it) if it.isprintable() else f"$'{''.join(map(spelled, it))}'" for it in words)
+
+
 def counted(count: int, name: str) -> str:
     """A number of things by their name: `1 run`, `2 runs`."""
     return f"{count} {name}" + ("" if count == 1 else "s")

@@ -74,7 +74,8 @@ def ended(name: str, work: Callable[[], int]) -> int:
         return REFUSED
     except Exception as error:  # pylint: disable=broad-except
         if isinstance(error, RuntimeError) and THREADLESS in str(error):
-            tell([f"{name}: no thread can be started, because this user has too many processes: end some, or raise ulimit -u"])
+            why = "this user has too many processes (ulimit -u), or memory ran out (ulimit -v): end some, or raise the limit"
+            tell([f"{name}: no thread can be started, because {why}"])
             return REFUSED
         import traceback
 

@@ -17,7 +17,7 @@ const MEANINGS = {
   TooLarge: "the program has more than 16 MiB",
 };
 // What a program in C has and a text in assembly language has not.
-const IS_C = /^\s*#\s*include\b|^\s*(?:int|void)\s+main\s*\(/m;
+const IS_C = /^[ \t]*#[ \t]*include\b|^[ \t]*(?:int|void)\s+main\s*\(/m;
 const WANTS_COMPILER = "This is a program in C. The page has no compiler: compile it with bspcc, and open the executable that this makes.";
 
 // The word of a line that is refused, for those errors that one word makes.

@@ -29,11 +29,12 @@ const OWN = "own ";
 const KEPT = "bspemu programs";
 // With more ranks, the machine has to be large.
 const MOST_RANKS = 1024;
-// Statements of floating point.
-const FLOATS = /^\s*(?:[\w.]+\s*:\s*)*(?:f[a-z]+\.|fl[wd]\b|fs[wd]\b|fs?csr\b|frcsr\b|f[rs]rm\b|f[rs]flags\b|csr)/m;
+// Statements of floating point. What stands before them is looked for in their line alone: of many empty lines each would be looked through to
+// the end.
+const FLOATS = /^[ \t]*(?:[\w.]+[ \t]*:[ \t]*)*(?:f[a-z]+\.|fl[wd]\b|fs[wd]\b|fs?csr\b|frcsr\b|f[rs]rm\b|f[rs]flags\b|csr)/m;
 
 // Statements of extension A.
-const ATOMICS = /^\s*(?:[\w.]+\s*:\s*)*(?:lr|sc|amo[a-z]+)\.w/m;
+const ATOMICS = /^[ \t]*(?:[\w.]+[ \t]*:[ \t]*)*(?:lr|sc|amo[a-z]+)\.w/m;
 
 const isExecutable = (bytes) => bytes[0] === 0x7f && bytes[1] === 0x45 && bytes[2] === 0x4c && bytes[3] === 0x46;
 

@@ -395,17 +395,22 @@ def names(tally: Tally, folder: pathlib.Path) -> None:
     cases = [
         ("theirs/prints.c", SILENT, "wrong output"), ("theirs/silent.c", PRINTS, "right"), ("theirs/hand_in.c", PRINTS, "right"),
         ("theirs/prints.cpp", CLASSES, "right"), ("theirs/a blank.cpp", CLASSES, "right"), ("theirs/-dash.cc", CLASSES, "right"),
-        ("theirs/\u00fcber.cxx", CLASSES, "right"),
+        ("theirs/\u00fcber.cxx", CLASSES, "right"), ("theirs/M\udcfcller.c", PRINTS, "right"), ("theirs/M\udcf6ller.c", SILENT, "wrong output"),
     ]  # fmt: skip
     for name, text, _ in cases:
         bench.write(name, text)
     for name, text in (("prints.c", PRINTS), ("hand_in.c", SILENT), ("silent.c", SILENT), ("prints.cpp", SILENT)):
         bench.write(name, text)
     bench.write("sheet.toml", f'{SHEET}files = ["prints.c", "hand_in.c", "silent.c", "prints.cpp"]\n')
-    done = bench.run("sheet.toml", *(it for it, _, _ in cases), words=["-o", "m.csv"])
+    done = bench.run("sheet.toml", *(it for it, _, _ in cases), words=["-o", "m.csv", "--html", "m.html", "--junit", "m.xml"])
     found = {it["hand-in"]: it["verdict"] for it in bench.rows("m.csv")} if done.returncode == NOT_ALL_RIGHT else {}
+    suites = xml.dom.minidom.parse(str(bench.folder / "m.xml")).getElementsByTagName("testsuite") if found else []
+    told = [done.stdout, (bench.folder / "m.html").read_text() if found else "", [it.getAttribute("name") for it in suites]]
     for name, _, wanted in cases:
-        tally.expect(f"{name} by its own text", found.get(name) == wanted, (found, done.stderr))
+        # A name that is no text has one spelling, which tells it from others.
+        spelled = name.encode(errors="backslashreplace").decode()
+        tally.expect(f"{spelled} by its own text", found.get(spelled) == wanted, (found, done.stderr))
+        tally.expect(f"{spelled} by that name everywhere", all(spelled in it for it in told), told)
 
 
 def links(tally: Tally, folder: pathlib.Path) -> None:
@@ -469,22 +474,25 @@ REPLACES = PROGRAM % ("", 'FILE *f = fopen("right.c", "w"); if (f) { fputs("int 
 
 
 def repeated(tally: Tally, folder: pathlib.Path) -> None:
-    """The commands that make a run of a hand-in again change no file of those who give them."""
+    """The commands that make a run of a hand-in again do so, also if its name is no text, and change no file of those who give them."""
     bench = Bench(folder / "repeated")
     bench.write("sheet.toml", 'nodes = [1]\nsolution = "right.c"\n')
     right = PROGRAM % ("", 'puts("it");')
     bench.write("right.c", right)
-    bench.write("replaces.c", REPLACES)
-    done = bench.run("sheet.toml", "replaces.c", words=["--html", "m.html"])
-    page = (bench.folder / "m.html").read_text()
-    lines = [*re.findall(r"(?m)^  to .*?: (.*bsprun .*)$", done.stdout), *map(html.unescape, re.findall(r"<pre>([^<]*bsprun [^<]*)</pre>", page))]
-    commands = list(dict.fromkeys(lines))
-    tally.expect("commands that make a run again", len(commands) == 3, (commands, done))
-    for command in commands:
-        bench.write("right.c", right)
-        subprocess.run(command, shell=True, cwd=bench.folder, stdin=subprocess.DEVNULL, capture_output=True, timeout=SECONDS, check=False)
-        found = (bench.folder / "right.c").read_text()
-        tally.expect(f"the solution after {command}", found == right, found)
+    for name in ("replaces.c", "it's \\ re\udcffplaces.c"):
+        bench.write(name, REPLACES)
+        done = bench.run("sheet.toml", name, words=["--html", "m.html"])
+        page = (bench.folder / "m.html").read_text()
+        lines = [*re.findall(r"(?m)^  to .*?: (.*bsprun .*)$", done.stdout), *map(html.unescape, re.findall(r"<pre>([^<]*bsprun [^<]*)</pre>", page))]
+        commands = list(dict.fromkeys(lines))
+        tally.expect(f"commands that make a run of {ascii(name)} again", len(commands) == 3, (commands, done))
+        for command in commands:
+            bench.write("right.c", right)
+            words = ["bash", "-c", command]
+            again = subprocess.run(words, cwd=bench.folder, stdin=subprocess.DEVNULL, capture_output=True, timeout=SECONDS, check=False)
+            tally.expect(f"a run by {command}", b"No such file" not in again.stderr and b"bash:" not in again.stderr, again)
+            found = (bench.folder / "right.c").read_text()
+            tally.expect(f"the solution after {command}", found == right, found)
 
 
 # What is dear, and prints that it is cheap.
@@ -494,6 +502,36 @@ solution = "right.c"
 [[bound]]
 rule = "w <= 2*solution"
 """
+# What prints that it is right and cheap, and then has the emulator run out of memory; and a host where it has less.
+STARVES = (pathlib.Path(__file__).resolve().parents[1] / "c/watched/starves.c").read_text()
+STARVED = """nodes = [60]
+memory = "1536K"
+expected = "it.txt"
+races = false
+[[bound]]
+rule = "w <= 1"
+"""
+LITTLE = """
+import sys
+sys.path.insert(0, sys.argv[1])
+from bsptools import start
+from bsptools.marking import hand_in_trial
+hand_in_trial.Plan.most_memory = 600 << 20
+sys.exit(start.process("bspcheck", sys.argv[2:]))
+"""
+
+
+def starves(tally: Tally, folder: pathlib.Path) -> None:
+    """A hand-in is not right by a report that it prints where the emulator runs out of memory, and so writes none."""
+    bench = Bench(folder / "starves")
+    bench.write("sheet.toml", STARVED)
+    bench.write("it.txt", "it\n")
+    bench.write("starves.c", STARVES)
+    words = [sys.executable, "-I", "-B", "-c", LITTLE, str(REPO / "tools"), "--jobs", "1", "-o", "m.csv", "sheet.toml", "starves.c"]
+    done = subprocess.run(words, cwd=bench.folder, stdin=subprocess.DEVNULL, capture_output=True, text=True, timeout=SECONDS, check=False)
+    row = bench.rows("m.csv")[0] if (bench.folder / "m.csv").exists() else {"verdict": done.stderr, "fault": ""}
+    right = done.returncode == NOT_ALL_RIGHT and row["verdict"] == "stopped" and "no memory" in row["fault"]
+    tally.expect("a report that is made up where memory runs out", right, (done, row))
 
 
 def forges(tally: Tally, folder: pathlib.Path) -> None:
@@ -552,5 +590,6 @@ def parts(tally: Tally, folder: pathlib.Path) -> List[Part]:
         Part("texts without an end", lambda: endless(tally, folder), wanted),
         Part("commands that make a run again", lambda: repeated(tally, folder), wanted),
         Part("reports that are made up", lambda: forges(tally, folder), wanted),
+        Part("reports where memory runs out", lambda: starves(tally, folder), wanted),
         Part("links of hand-ins", lambda: links(tally, folder)),
     ]

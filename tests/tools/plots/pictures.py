@@ -340,6 +340,13 @@ def names(check: Check) -> None:
     (check.folder / "long.csv").write_text(long)
     done = check.tool("bspplot", "--sweep", "long.png", "--compare", "long.svg", "long.csv")
     check.expect("pictures of long names", (done.returncode, done.stderr) == (0, ""), done.stderr)
+    # Half of a formula of matplotlib, which it would refuse.
+    program, machine = "$\\frac{p$", "$\\frac{m$"
+    rows = [f"{program},2,4,100,{machine},3,100,10,440,ended", f"{program},2,1,10,,3,100,10,140,ended", "b.s,2,1,10,,1,300,2,312,ended"]
+    (check.folder / "map.csv").write_text("\n".join(["program,nodes,g,l,machine,supersteps,w,h,total,outcome", *rows, ""]))
+    done = check.tool("bspplot", "--map", "map.svg", "map.csv")
+    drawn_map = (check.folder / "map.svg").read_text() if done.returncode == 0 else ""
+    check.expect("names in a map that look like formulas", all(f">{it}<" in drawn_map for it in (program, machine)), (done, drawn_map[:99]))
 
 
 def ends_at(picture: svg.Drawing, ends: Dict[str, Tuple[float, float, float]]) -> bool:

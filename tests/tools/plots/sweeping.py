@@ -140,6 +140,7 @@ def parts(make: Parts) -> List[Part]:
         make.part("a folder of an odd name", odd),
         make.part("results of others", others),
         make.part("links in results", links),
+        make.part("lists where others may rename", unheld),
         make.part("forged results", forged),
         make.part("odd names of hosts and folders", hostile),
         make.part("runs that do not end", ended),
@@ -148,6 +149,8 @@ def parts(make: Parts) -> List[Part]:
         make.part("what is edited while a sweep goes on", edited, tools=COMPILER),
         make.part("runs that cannot be made", missing),
         make.part("programs that are not compiled", uncompiled, tools=COMPILER),
+        make.part("programs that take fewer nodes", fewer, tools=COMPILER),
+        make.part("programs that look for a file late", late, tools=COMPILER),
     ]
 
 
@@ -298,6 +301,47 @@ def missing(check: Check) -> None:
     done = check.tool("bspsweep", "--engine", "plain", "--folder", "anew", *words[4:], environment=environment)
     right = done.returncode == 1 and "not made: " in done.stderr and outcomes(done.stdout) == ["not run", "ended"]
     check.expect("a job that is killed", right and "Traceback" not in done.stderr, done)
+
+
+def fewer(check: Check) -> None:
+    """A row has no costs of a run on fewer nodes, where the program takes no more."""
+    (check.folder / "two.c").write_text("#include <bsp.h>\nint main(void) { bsp_begin(2); bsp_sync(); bsp_end(); return 0; }\n")
+    done = check.tool("bspsweep", "--engine", "plain", "--folder", "kept", "--nodes", "1,2,4", "two.c")
+    right = done.returncode == 1 and "two.c, 4 nodes: the program takes 2 nodes in bsp_begin" in done.stderr
+    check.expect("a program that takes two nodes", right and outcomes(done.stdout) == ["ended", "ended", "not run"], done)
+
+
+# Writes more than bsprun repeats a run for, and then looks for a file.
+WRITES_MUCH = """\
+#include <bsp.h>
+#include <stdio.h>
+static char line[1 << 16];
+int main(void)
+{
+    bsp_begin(bsp_nprocs());
+    for (int i = 0; i < 80; i++)
+        fwrite(line, 1, sizeof line, stdout);
+    bsp_sync();
+    printf("%d\\n", fopen("late.txt", "r") != NULL);
+    bsp_end();
+    return 0;
+}
+"""
+
+
+def late(check: Check) -> None:
+    """A table has no costs of a run without a file that is here, where it is too late to repeat the run with it."""
+    (check.folder / "much.c").write_text(WRITES_MUCH)
+    (check.folder / "late.txt").write_text("1\n")
+    words = ["--engine", "plain", "--folder", "kept", "much.c"]
+    done = check.tool("bspsweep", *words)
+    right = done.returncode == 1 and "late.txt is here, and the run began without it: give it by --file" in done.stderr
+    check.expect("a file that is looked for late", right and outcomes(done.stdout) == ["not run"], done)
+    done = check.tool("bspsweep", *words, "--file", "late.txt")
+    check.expect("the same file by --file", done.returncode == 0 and outcomes(done.stdout) == ["ended"], done)
+    (check.folder / "late.txt").unlink()
+    done = check.tool("bspsweep", *words)
+    check.expect("a file that is not here", done.returncode == 0 and outcomes(done.stdout) == ["ended"], done)
 
 
 def uncompiled(check: Check) -> None:
@@ -568,6 +612,21 @@ def others(check: Check) -> None:
     (check.folder / ".bspsweep").symlink_to("kept")
     done = check.tool("bspsweep", "--engine", "plain", *TWO)
     check.expect("results that are a link", done.returncode == 1 and ".bspsweep: it is a link. Give another folder by --folder" in done.stderr, done.stderr)
+
+
+def unheld(check: Check) -> None:
+    """Where others may rename the results, and put theirs in the place, no list of commands is written there that a shell is given later."""
+    stub, place = check.folder / "bin", check.folder / "open"
+    for it in (stub, place):
+        it.mkdir()
+    (stub / "sbatch").write_text(SBATCH)
+    (stub / "sbatch").chmod(0o755)
+    place.chmod(0o777)
+    for more in (["--script"], ["--engine", "slurm"]):
+        done = check.tool("bspsweep", *more, "--folder", "open/kept", *TWO, environment={"PATH": f"{stub}:{os.environ['PATH']}"})
+        right = done.returncode == 1 and f"other users may rename files in {place}: give another folder" in done.stderr
+        left = [*place.rglob("commands*")]
+        check.expect(f"{' '.join(more)} where others may rename", right and not left and "start it" not in done.stdout, (done, left))
 
 
 def hostile(check: Check) -> None:

@@ -74,6 +74,9 @@ def main(words: list[str]) -> int:
 def checked(options: argparse.Namespace) -> int:
     """Does what the command line asks for."""
     sheet = sheet_reader.read(options.sheet)
+    tables = [it for it in (options.output, options.html, options.junit) if it]
+    if not options.files and tables:
+        raise Refused(f"no hand-in was given, so there are no marks for {tables[0]}: give the files to mark")
     if not options.files and not options.freeze and not options.costs:
         raise Refused("no hand-in was given: give the files to mark, or --costs or --freeze")
     outputs = [options.output, options.html, options.junit, options.freeze]

@@ -23,6 +23,9 @@ from ..refusals import printable
 MOST_LETTERS = 1000
 # A section of the help.
 PICTURES = "pictures of a table of bspsweep"
+# The folder that has matplotlib's settings.
+SETTINGS = pathlib.Path(__file__).resolve().parents[1] / "plot"
+
 
 def span(text: str) -> tuple[int, int | None]:
     """The first and the last superstep of a text as `3`, `3:9` or `3:`."""
@@ -158,8 +161,10 @@ def inside(folder: pathlib.Path) -> Iterator[None]:
 @contextlib.contextmanager
 def matplotlibs_folder() -> Iterator[None]:
     """Where matplotlib keeps what it knows of fonts: the folder that the person has set for it, or one beside what the tools keep, or one for
-    a while, as none of these is the person's own. Of that it says nothing."""
+    a while, as none of these is the person's own. Of that it says nothing. The name of a way to show pictures, of which none is shown, may be
+    an older one's, which matplotlib would refuse."""
     logging.getLogger("matplotlib").setLevel(logging.ERROR)
+    os.environ.pop("MPLBACKEND", None)
     variable = "MPLCONFIGDIR"
     path = os.environ.get(variable, "")
     with contextlib.ExitStack() as stack:
@@ -185,7 +190,7 @@ def main(words: list[str]) -> int:
     python_packages.expect(python_packages.MATPLOTLIB)
     with matplotlibs_folder():
         # matplotlib takes its settings from the folder that it is imported in. Here they are the same for everybody.
-        with inside(pathlib.Path(__file__).resolve().parents[1] / "plot"):
+        with inside(SETTINGS):
             drawing = importlib.import_module("..plot.drawing", __package__)
         drawing.draw(asked)
     return 0

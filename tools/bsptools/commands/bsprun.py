@@ -117,10 +117,13 @@ def arguments(words: list[str]) -> argparse.Namespace:
         expect_page_alone(asked)
     elif asked.recorded:
         raise Refused("--recorded is for --page: give that too")
+    if asked.accept_all is not None and not asked.portable:
+        raise Refused("--accept-all is for --portable: give that too")
     asked.is_here = asked.out is None and not asked.no_files
     asked.out = os.curdir if asked.is_here else asked.out
-    # The files that the program looks for and nobody has given; and the digests of those that it gets all the same.
-    asked.sought, asked.digests = {}, {}
+    # The files that the program looks for and nobody has given, and the digests of those that it gets all the same; and how many nodes it takes,
+    # if these are fewer than it is given.
+    asked.sought, asked.digests, asked.taken = {}, {}, 0
     if asked.apart and not asked.summary and asked.profile is None:
         raise Refused("--apart printing needs --summary or --profile: give one of them")
     tell([f"bsprun: {it} after PROGRAM is an argument of the program" for it in reader.own(words, asked.args)])
@@ -167,7 +170,7 @@ def deliver(job: Job, done: Done) -> int:
     elif options.report is not None:
         from ..outputs.report_formats import spelled_for
 
-        files.write(options.report, spelled_for(options.report, found, list(options.sought), options.digests))
+        files.write(options.report, spelled_for(options.report, found, list(options.sought), options.digests, options.taken))
     if found.outcome != "ended" and job.mark:
         from ..run.held_lines import held_lines
 
@@ -257,6 +260,7 @@ def run(job: Job, beside: Beside, folder: pathlib.Path, repeated: Repeated, buil
         count, nodes = fewer.count, job.options.nodes
         tell([f"bsprun: the program asks for {count} nodes in bsp_begin, so it gets these and not {nodes}"])
         job.give_nodes(count)
+        job.options.taken = count
         return run(job, beside, folder, repeated, builds)
     except Wanted as wanted:
         names = [it for name in wanted.names for it in with_others(name)]

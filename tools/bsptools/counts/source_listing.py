@@ -4,7 +4,7 @@ from __future__ import annotations
 
 import json
 import pathlib
-from collections.abc import Mapping, Sequence
+from collections.abc import Iterable, Mapping, Sequence
 from typing import Any, NamedTuple
 
 from ..files import whole
@@ -17,8 +17,8 @@ from .line_costs import Work
 from .printing import printing
 
 FORM = "bspemu lines 1"
-# Bytes of a source that is kept.
-MOST_SOURCE = 1 << 22
+# Letters of a source that are kept, and of all of them together.
+MOST_SOURCE, MOST_SOURCES = 1 << 22, 1 << 24
 # More than a sum of costs is.
 MOST_SUM = 1 << 60
 
@@ -92,7 +92,7 @@ class Listing(NamedTuple):
 
 def listing(work: Work, report: Report, relations: list[Relation], program: str) -> Listing:
     """The listing of a run."""
-    paths = sorted({it.path for it in work.places.values() if it.is_own})
+    paths = {path: number for number, path in enumerate(sorted({it.path for it in work.places.values() if it.is_own}))}
     printed = printing(work)
     of_rank = printed.of_rank if printed is not None else {}
     supersteps = [
@@ -104,11 +104,11 @@ def listing(work: Work, report: Report, relations: list[Relation], program: str)
     lines = []
     for it in work.lines():
         made = {number: found[it.place] for number, found in enumerate(work.folded_parts) if found.get(it.place)}
-        file = paths.index(it.place.path) if it.place.is_own else -1
+        file = paths[it.place.path] if it.place.is_own else -1
         costs = (it.paid, sum(made.values()), it.with_calls, it.is_exact, [found.get(it.place, 0) for found in by_rank], made)
         lines.append(Line(file, it.place.number, it.function, *costs, asked.get(it.place, 0)))
     name = printable(pathlib.PurePath(program).name)
-    return Listing(name, supersteps, report.outcome, [source(it) for it in paths], lines)
+    return Listing(name, supersteps, report.outcome, sources(paths), lines)
 
 
 def asked_for(relations: list[Relation]) -> dict[Place, int]:
@@ -120,10 +120,20 @@ def asked_for(relations: list[Relation]) -> dict[Place, int]:
     return found
 
 
-def source(path: str) -> File:
-    """A source by its path."""
+def sources(paths: Iterable[str]) -> list[File]:
+    """Sources by their paths, with their texts as far as there is room for all of them: links may give one file very many names."""
+    found: list[File] = []
+    room = MOST_SOURCES
+    for path in paths:
+        found.append(source(path, min(room, MOST_SOURCE)))
+        room = max(0, room - sum(len(it) + 1 for it in found[-1].text))
+    return found
+
+
+def source(path: str, most: int = MOST_SOURCE) -> File:
+    """A source by its path, up to so many letters."""
     with about(path), open(path, encoding="utf-8", errors="replace") as file:
-        text = file.read(MOST_SOURCE)
+        text = file.read(most)
     return File(printable(pathlib.PurePath(path).name), text.split("\n"))
 
 

@@ -13,7 +13,7 @@ from .. import children
 from ..framed.replays import Replays
 from ..outputs import output_records
 from ..outputs.output_demux import ERROR, OUTPUT, Marks, digest_of
-from ..outputs.report import Report, part
+from ..outputs.report import Report, of_run
 from ..portable.divergence import first_divergence
 from ..prepare.clock_rate import with_clock_rate
 from ..prepare.job import Job
@@ -93,7 +93,7 @@ def run_of(job: Job, flags: int, fill: int | None) -> tuple[Run, Report] | None:
     """A run with these settings of the program's library: what it wrote, also on standard error, and its report."""
     job.set(flags, fill, is_timed=False)
     done = children.call([*job.program, "run", *job.settings, "--report"], stdout=subprocess.PIPE, stderr=subprocess.DEVNULL)
-    parted = part(done.stdout)
+    parted = of_run(done.stdout, done.returncode)
     if parted is None:
         return None
     marks = Marks(job.mark)

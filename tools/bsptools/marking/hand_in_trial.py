@@ -24,7 +24,7 @@ from ..files import content_of
 from ..framed.environment_calls import Tracer
 from ..outputs import contested_bytes
 from ..outputs.output_demux import ERROR, OUTPUT, Marks
-from ..outputs.report import Report, part
+from ..outputs.report import Report, of_run
 from ..portable.portability import TRIES, verdict
 from ..portable.portability_findings import told_contested
 from ..portable.trial_builds import Builds
@@ -310,7 +310,7 @@ class Trial:
     def ended(self, job: Job, ran: Ran, most: int) -> Tuple[Ended, Optional[Report]]:
         """What a run came to, and its report if it has one. That is parted first: a program can print its mark with a length that would reach
         into the report."""
-        parted = part(ran.output) if ran.how == bounded_run.ENDED else None
+        parted = of_run(ran.output, ran.status) if ran.how == bounded_run.ENDED else None
         written, report = parted or (memoryview(ran.output), None)
         marks = Marks(job.mark)
         pieces = list(marks.take(bytes(written)))

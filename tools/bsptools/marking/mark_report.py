@@ -6,6 +6,7 @@ import re
 from typing import List, Sequence
 from xml.sax.saxutils import escape, quoteattr
 
+from ..refusals import printable
 from .marks import Check, Marks
 from .sheet import Sheet, points_told
 
@@ -15,8 +16,8 @@ MOST_LINES = 60
 
 
 def spelled(value: str) -> str:
-    """A text, of which what XML cannot spell is told by its number."""
-    return UNSPELLED.sub(lambda it: f"\\x{ord(it[0]):02x}", value)
+    """A text, of which what XML cannot spell is spelled as elsewhere."""
+    return UNSPELLED.sub(lambda it: printable(it[0]), value)
 
 
 def as_junit(sheet: Sheet, found: Sequence[Marks]) -> str:

@@ -89,8 +89,9 @@ def shown(text: str, most: int = MOST_LETTERS) -> str:
 
 
 def cell(value: object) -> str:
-    """A cell that no spreadsheet takes for a formula. Numbers stay numbers."""
-    text = "".join(it for it in str(value).replace("\n", " ") if it.isprintable())
+    """A cell that no spreadsheet takes for a formula. Numbers stay numbers, and what cannot be printed is spelled: names would be alike
+    without it."""
+    text = printable(str(value).replace("\n", " "))
     return f"'{text}" if FORMULA.match(text) and not NUMBER.match(text) else text
 
 
@@ -102,8 +103,9 @@ def as_csv(sheet: Sheet, found: Sequence[Marks]) -> str:
     names += (["portable"] if sheet.portable else []) + (["no warnings"] if sheet.warning_points else [])
     rows.writerow(["hand-in", "points", "of", "verdict", "fault", *map(cell, names)])
     for it in found:
-        points = {check.name: points_told(check.points) for check in it.checks}
+        # These come last, in this order. Two bounds may have the same name, each for a case of its own.
+        points = [points_told(check.points) for check in it.checks[-len(names) :]]
         fault = it.first.told if it.first else ""
         first = [cell(it.name), points_told(it.points), points_told(sheet.points), it.verdict, cell(fault)]
-        rows.writerow([*first, *(points.get(name, "") for name in names)])
+        rows.writerow([*first, *points])
     return text.getvalue()

@@ -6,7 +6,6 @@ import contextlib
 import math
 import os
 import pathlib
-import shlex
 import shutil
 import signal
 import stat
@@ -19,9 +18,9 @@ from dataclasses import replace
 from typing import Any, Dict, Iterator, List, NamedTuple, Optional, Sequence, Tuple
 
 from .. import children, emulator, own_folders, python_packages, sealed_results
-from ..files import named_content, opened_folder, put
+from ..files import is_text, named_content, opened_folder, put
 from ..limits import MEMORY, MOST_INPUT
-from ..refusals import Refused, about, counted, show, tell
+from ..refusals import Refused, about, counted, show, tell, typed
 from ..sealed_results import digest
 from . import bounded_run, compiler_files, confinement, trial_pool, wanted_file
 from .evidence import Evidence, of_json
@@ -109,7 +108,7 @@ class Marking:
         self.is_confined = confinement.version() > 0
         if not self.is_confined and not is_trusted:
             raise Refused(NO_LANDLOCK)
-        self.program = emulator.proved_program()
+        self.program = named_in_text(emulator.proved_program(), folder)
         os.environ["XDG_CACHE_HOME"] = self.cache = cache_at(folder)
         self.kept = folder_at(kept)
         if sheet.checker:
@@ -379,7 +378,7 @@ class Marking:
         words += [f"-D{it}={value}" for it, value in self.plan.runs[number].defines]
         words += ["--input", given] if given else []
         words += [it for name in run.case.given for it in ("--file", os.path.relpath(sheet.file(name)))]
-        return shlex.join([*words, name if not name.startswith("-") else f"./{name}", *run.case.args])
+        return typed([*words, name if not name.startswith("-") else f"./{name}", *run.case.args])
 
     def watched(self, name: str, number: int) -> str:
         """The command that writes a page in which a run of a hand-in is watched. A program in a page writes no files."""
@@ -429,6 +428,15 @@ class Progress:
     def end(self) -> None:
         """Takes the line away."""
         show("")
+
+
+def named_in_text(program: str, folder: pathlib.Path) -> str:
+    """The path of the emulator, or of a link to it in this folder where its own path is no text: it takes none as its name that is not."""
+    if is_text(program):
+        return program
+    link = folder / "bspemu"
+    link.symlink_to(program)
+    return str(link)
 
 
 def tool(name: str) -> str:

@@ -3,11 +3,12 @@
 from __future__ import annotations
 
 import re
+import signal
 from collections.abc import Iterator
 from typing import NamedTuple
 
 from ..files import whole
-from ..refusals import Unfit
+from ..refusals import UNWRITTEN, Unfit
 
 SUPERSTEP = re.compile(rb"superstep (\d+): w (\d+) h (\d+)((?: [a-z]+ \d+)*) (turned|last)$")
 BEGIN, WORK = b"superstep 0: w ", re.compile(rb"superstep \d+: w (\d+)")
@@ -18,6 +19,8 @@ MOST_COST = 1 << 40
 OUTCOME = re.compile(rb"ended$|rank \d+ stopped: .+$|desync: rank \d+ ended, rank \d+ synced$|refused: \w+ rank \d+(?: request \d+)?$")
 # No line of a report has more bytes.
 MOST_OF_A_LINE = 512
+# How the emulator ends where it has written a report: every node ended, or one was stopped, ran up to its limit or waited in vain.
+REPORTED = (0, 2, 3, 4)
 
 
 class Superstep(NamedTuple):
@@ -72,6 +75,17 @@ def part(written: bytes) -> tuple[memoryview, Report] | None:
             report = Report(supersteps[::-1], whole(total[1].decode()), outcome.decode(), written[begin:])
             return memoryview(written)[:begin], checked(report)
     return None
+
+
+def of_run(written: bytes, status: int, writes_more: bool = False) -> tuple[memoryview, Report] | None:
+    """The same of an emulator that ended with this status. Where it has no memory or is killed it writes no report, and what looks like one is
+    its program's. A file beside the report is written after it, so that the report is there where the file cannot be written."""
+    return part(written) if is_reported(status, writes_more) else None
+
+
+def is_reported(status: int, writes_more: bool = False) -> bool:
+    """Whether an emulator that ended with this status has written a report. It writes one into a pipe, which no limit of a file's size ends."""
+    return status in REPORTED or (writes_more and status in (UNWRITTEN, -signal.SIGXFSZ))
 
 
 class Brief(NamedTuple):

@@ -9,11 +9,13 @@ from collections.abc import Mapping, Sequence
 from typing import Any
 
 from ..files import whole
+from ..limits import MOST_NODES
 from ..refusals import Refused, why_unfit
 from .report import MOST_COST, Report, Superstep, checked, part
 
-# In a report as JSON: the files that the program looked for and nobody gave, and the digests of those that it got all the same.
-SOUGHT, GIVEN = "sought", "given"
+# In a report as JSON: the files that the program looked for and nobody gave, and the digests of those that it got all the same; and the nodes
+# that it was run on, where it takes fewer than it was given.
+SOUGHT, GIVEN, TAKEN = "sought", "given", "nodes"
 
 
 def read(content: bytes) -> Report | None:
@@ -58,12 +60,12 @@ def as_csv(report: Report) -> bytes:
     return text.getvalue().encode()
 
 
-def as_json(report: Report, sought: Sequence[str] = (), given: Mapping[str, str] | None = None) -> bytes:
+def as_json(report: Report, sought: Sequence[str] = (), given: Mapping[str, str] | None = None, taken: int = 0) -> bytes:
     """An object with the supersteps, the total and the outcome. If there are any, it has the files that the program looked for and nobody gave,
-    and the digests of those that it got all the same."""
+    and the digests of those that it got all the same; and how many nodes it takes, if these are fewer than it was given."""
     supersteps = [{"superstep": it.number, **it.costs, "end": it.end} for it in report.supersteps]
-    files: dict[str, object] = {SOUGHT: list(sought), GIVEN: dict(given or {})}
-    content = {"supersteps": supersteps, "total": report.total, "outcome": report.outcome, **{name: it for name, it in files.items() if it}}
+    more: dict[str, object] = {SOUGHT: list(sought), GIVEN: dict(given or {}), TAKEN: taken}
+    content = {"supersteps": supersteps, "total": report.total, "outcome": report.outcome, **{name: it for name, it in more.items() if it}}
     return json.dumps(content, indent=1).encode() + b"\n"
 
 
@@ -74,10 +76,15 @@ def sought_in(content: bytes) -> dict[str, str]:
     return {**{str(it): "" for it in found.get(SOUGHT, [])}, **given}
 
 
-def spelled_for(path: str, report: Report, sought: Sequence[str] = (), given: Mapping[str, str] | None = None) -> bytes:
+def taken_in(content: bytes) -> int:
+    """On how many nodes the run of such a report was made, if these are fewer than were asked for, and else 0."""
+    return whole(json.loads(content).get(TAKEN, 0), MOST_NODES)
+
+
+def spelled_for(path: str, report: Report, sought: Sequence[str] = (), given: Mapping[str, str] | None = None, taken: int = 0) -> bytes:
     """The report as the name of its file asks for: `.csv`, `.json`, or else the emulator's lines."""
     if path.endswith(".csv"):
         return as_csv(report)
     if path.endswith(".json"):
-        return as_json(report, sought, given)
+        return as_json(report, sought, given, taken)
     return report.text

@@ -104,7 +104,8 @@ def draw(them: list[Map], window: Window, log: str | None, style: Style, title: 
         scaled(place, window, logarithmic)
         labelled(place, ["g", "l"], logarithmic, (number, len(them), across(len(them), style)))
     made.legend([Patch(**{**look(at), "edgecolor": "#555555"}) for at in range(len(names))], names, columns)
-    # Where names of machines have room is known when all else has its place.
+    # Where names of machines have room is known when all else has its place. No name is a formula there either.
+    made.spell()
     made.figure.draw_without_rendering()
     for number, (one, place) in enumerate(zip(them, axes)):
         marked(made, place, one, window, number)
@@ -150,7 +151,7 @@ def named(axes: Axes, name: str, at: tuple[float, float], dot: Bbox, taken: list
     """Writes the name of a machine beside its dot: within the axes, and over nothing that has taken its place if there is such a place. Its own
     is answered."""
     box = {"facecolor": "white", "edgecolor": "none", "pad": 0.8, "alpha": 0.85}
-    text = axes.annotate(name, at, (0, 0), textcoords="offset points", bbox=box, annotation_clip=False, zorder=6, fontsize="small")
+    text = axes.annotate(name, at, (0, 0), textcoords="offset points", bbox=box, annotation_clip=False, zorder=6, fontsize="small", parse_math=False)
     text.set_in_layout(False)
     size, frame = text.get_window_extent(), axes.get_window_extent()
     middle = (dot.x0 + dot.x1) / 2, (dot.y0 + dot.y1) / 2

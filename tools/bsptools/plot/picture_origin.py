@@ -6,7 +6,7 @@ import json
 from collections.abc import Sequence
 
 from .. import VERSION
-from ..files import content_of
+from ..files import named_content
 from ..limits import MOST_TABLE
 from ..refusals import Refused
 
@@ -36,7 +36,7 @@ def told(picture: str, words: Sequence[str], source: str, name: str, digest: str
 def record_beside(source: str, digest: str) -> dict[str, object]:
     """The record beside a table of this digest, if there is one of it."""
     try:
-        record = json.loads(content_of(f"{source}.json", MOST_TABLE))
+        record = json.loads(named_content(f"{source}.json", MOST_TABLE))
         return {"record": record} if record["table"]["sha256"] == digest else {}
     except (Refused, ValueError, KeyError, TypeError, RecursionError):
         return {}

@@ -8,10 +8,11 @@ from __future__ import annotations
 import argparse
 import concurrent.futures
 import pathlib
+import signal
 from collections.abc import Callable
 from typing import Any
 
-from .. import emulator
+from .. import children, emulator
 from ..files import content_of
 from ..limits import MOST_PROGRAM
 from ..prepare.compilation import compiled
@@ -44,9 +45,13 @@ class Builds:
         return self
 
     def __exit__(self, *_: object) -> None:
-        for it in self.made.values():
-            it.cancel()
         self.runs.__exit__()
+        # Where something has ended this process, a build that goes on may take long: the library is compiled first, or GCC reads a pipe.
+        self.pool.shutdown(wait=False)
+        while left := [it for it in list(self.made.values()) if not it.cancel() and not it.done()]:
+            children.tell_running(signal.SIGTERM)
+            # A build may have begun meanwhile, which is told next time.
+            concurrent.futures.wait(left, children.patience(children.PATIENCE))
         self.pool.shutdown()
 
     def begin_loading(self, load: Callable[[], None]) -> None:

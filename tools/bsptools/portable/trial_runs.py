@@ -98,7 +98,7 @@ class Subject(NamedTuple):
 def ending_of(done: subprocess.CompletedProcess[bytes], mark: bytes, calls: list[bytes] | None = None) -> Ending:
     """What a run with a report came to: its output without the records, the files and the sums that these tell of. Records of calls are added
     to a list, if one is given."""
-    found = report.brief(done.stdout)
+    found = report.brief(done.stdout) if report.is_reported(done.returncode) else None
     if found is None:
         raise Refused("the program could not be run again", *lines_of(done.stderr))
     marks, written, output, sums = Marks(mark), Files(), bytearray(), {}

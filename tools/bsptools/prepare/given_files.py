@@ -89,7 +89,8 @@ def with_others(name: str) -> list[str]:
 def files_of(folder: str) -> list[str]:
     """The files of a folder, and none of those below it."""
     with about(folder), os.scandir(folder) as entries:
-        names = sorted(it.path for it in entries if it.is_file())
+        # A link may lead nowhere, or to itself.
+        names = sorted(it.path for it in entries if os.path.isfile(it.path))
     if len(names) > MOST_FILES:
         raise Refused(f"{folder} has {len(names)} files, and --files gives {MOST_FILES} at most: give those that the program reads by --file")
     return names

@@ -18,7 +18,7 @@ from ..outputs import output_records
 from ..outputs.output_demux import marked
 from ..program import elf, memory_need
 from ..program.code import Code, kind_of, read_elf, read_text
-from ..refusals import Refused, about, tell
+from ..refusals import Refused, about, tell, typed
 from .argument_block import MAGIC, block
 from .clock_rate import with_clock_rate
 from .compilation import compiled, looks, manner, take_sources
@@ -226,8 +226,6 @@ def words_of(job: Job, parser: Parser) -> list[str]:
 
 def gdb_line(job: Job, parser: Parser, commands: list[str]) -> str:
     """The command line of bspgdb that comes to a place by these commands of gdb."""
-    import shlex
-
     tool = os.path.join(".", os.path.relpath(emulator.program("bspgdb"))) if is_here() else "./.."
     tool = tool if not tool.startswith("./..") else shutil.which("bspgdb") and "bspgdb" or emulator.program("bspgdb")
-    return shlex.join([tool, *words_of(job, parser), "--", *(it for command in commands for it in ("-ex", command))])
+    return typed([tool, *words_of(job, parser), "--", *(it for command in commands for it in ("-ex", command))])

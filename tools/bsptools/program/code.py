@@ -221,7 +221,9 @@ def read_elf(content: bytes) -> Code:
     code.is_float = elf.wants_floats(content)
     code.is_atomic = elf.wants_atomics(content)
     for address, stored, end in elf.segments(content):
-        code.segments.append((address, stored))
+        # Each address is looked for in one after another.
+        if stored and len(code.segments) < elf.MOST_SEGMENTS:
+            code.segments.append((address, stored))
         code.need = max(code.need, end)
     return code
 

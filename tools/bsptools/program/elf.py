@@ -25,15 +25,16 @@ FLOAT_ABI = 0x6
 # What the attributes of a file say of its instructions.
 ARCHITECTURE = re.compile(rb"(?<![0-9a-z_])rv32([0-9a-z_]+)\0")
 VERSIONS = re.compile(r"(?<!\d)\d+p\d+")
-# A section of symbols, the bytes of one of them, and of a name at the most.
-SYMBOLS, SYMBOL_BYTES, SECTION_BYTES, MOST_NAME = 2, 16, 40, 1 << 12
+# A section of symbols, the bytes of one of them, of a name at the most, and of all names: each may be the end of another one.
+SYMBOLS, SYMBOL_BYTES, SECTION_BYTES, MOST_NAME, MOST_NAMES = 2, 16, 40, 1 << 12, 1 << 26
 # Sections that name a file with more for debuggers; and the number of a section that the header has no room for.
 LINKS, MANY = (b".gnu_debuglink\0", b".gnu_debugaltlink\0"), 0xFFFF
 FUNCTION, OBJECT = "STT_FUNC", "STT_OBJECT"
 # What makes a scope of a function's debug information, with the blocks in it.
 CALLED, PUT_IN, BLOCK = "DW_TAG_subprogram", "DW_TAG_inlined_subroutine", "DW_TAG_lexical_block"
-# What is read for debuggers takes no more bytes than these, and is none of a file with more sections than compilers make.
-MOST_MEMORY, MOST_SECTIONS = 1 << 29, 256
+# What is read for debuggers takes no more bytes than these, and is none of a file with more sections than compilers make. The code is in the
+# first of very many segments.
+MOST_MEMORY, MOST_SECTIONS, MOST_SEGMENTS = 1 << 29, 256, 256
 OTHERS = ("DW_AT_abstract_origin", "DW_AT_specification")
 # From a function to where it is declared, in a file that is not broken.
 MOST_STEPS = 8
@@ -41,8 +42,9 @@ MOST_STEPS = 8
 
 def segments(content: bytes) -> Iterator[tuple[int, memoryview, int]]:
     """Address, bytes and end of each segment that is loaded, as far as they can be read: a broken file is the emulator's to refuse. So
-    is one whose segments have more bytes than a node's memory, and what is beyond is left out here."""
-    room = limits.MOST_MEMORY
+    is one whose segments have more bytes than a node's memory, and what is beyond is left out here. Segments may name the same bytes over
+    and over: of them there are no more than the file has."""
+    room = min(len(content), limits.MOST_MEMORY)
     with contextlib.suppress(struct.error):
         (start,) = struct.unpack_from("<I", content, 28)
         size, count = struct.unpack_from("<HH", content, 42)
@@ -119,7 +121,7 @@ def names(content: bytes) -> set[str]:
 
 
 def symbols(content: bytes) -> dict[str, int]:
-    """The values of an ELF file's symbols by their names; none of a file that has none, or is broken."""
+    """The values of an ELF file's symbols by their names; none of a file that has none, is broken, or has too many for its bytes."""
     with contextlib.suppress(struct.error, IndexError):
         (start,) = struct.unpack_from("<I", content, 32)
         size, count = struct.unpack_from("<HH", content, 46)
@@ -130,10 +132,16 @@ def symbols(content: bytes) -> dict[str, int]:
         if table is not None:
             _, _, _, _, begin, length, link, *_ = table
             texts, room = struct.unpack_from("<10I", content, start + link * size)[4:6]
-            places = [struct.unpack_from("<2I", content, begin + at) for at in range(0, length, SYMBOL_BYTES)]
-            text = content[texts : texts + room]
-            known = [(at, it) for at, it in places if b"\0" in text[at : at + MOST_NAME]]
-            return {text[at : text.index(b"\0", at)].decode(errors="replace"): it for at, it in known}
+            text, left, found = content[texts : texts + room], MOST_NAMES, {}
+            for place in range(begin, begin + length, SYMBOL_BYTES):
+                at, value = struct.unpack_from("<2I", content, place)
+                end = text.find(b"\0", at, at + MOST_NAME)
+                left -= max(end - at, 0)
+                if left < 0:
+                    return {}
+                if end >= 0:
+                    found[text[at:end].decode(errors="replace")] = value
+            return found
     return {}
 
 
@@ -245,7 +253,7 @@ def path(unit: Any, program: Any, number: int) -> str:
     first = 0 if program.header["version"] >= 5 else 1
     file = program.header["file_entry"][number - first]
     folder = program.header["include_directory"][file.dir_index - first] if file.dir_index >= first else b""
-    return str(posixpath.join(unit.get_top_DIE().attributes["DW_AT_comp_dir"].value, folder, file.name).decode(errors="replace"))
+    return str(posixpath.join(unit.get_top_DIE().attributes["DW_AT_comp_dir"].value, folder, file.name).decode(errors="surrogateescape"))
 
 
 def name(scope: Any) -> str:

@@ -42,13 +42,15 @@ class Finder:
         # Of all runs of the job: what one of them asked for is given to the next one, and asked for no more.
         self._sought: dict[str, None] = options.sought
 
-    def look(self, record: Record, note: Note | None) -> None:
-        """Looks at a record, which may be a note."""
+    def look(self, record: Record, note: Note | None, is_late: bool) -> None:
+        """Looks at a record, which may be a note. If it is too late for the run to be repeated, only what the program looks for is noted."""
         if record.kind == output_records.NAME:
             self._written.add(os.path.normpath(os.fsdecode(record.content[4:])))
         if note is None or note.what not in (ABSENT, ASKED) or self._is_off or note.text in self.names:
             return
         self._seek(note.text)
+        if is_late:
+            return
         if is_file(note.text) and os.path.normpath(note.text) not in self._written and not self._is_given(note.text):
             self.names.append(note.text)
         elif note.what == ABSENT and note.text not in self._told and len(self._told) < MOST_MISSING:

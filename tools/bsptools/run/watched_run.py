@@ -128,8 +128,7 @@ class Outputs:
             self.notes.take(note)
         elif record.kind != NOTE:
             self.files.take(record)
-        if not self.repeated.is_long:
-            self.finder.look(record, note)
+        self.finder.look(record, note, self.repeated.is_long)
 
     def begin(self) -> None:
         """Writes what was kept of the first superstep."""
@@ -140,10 +139,10 @@ class Outputs:
         for is_error, piece in kept:
             self._give(is_error, piece)
 
-    def end(self) -> report.Report | None:
+    def end(self, is_reported: bool = True) -> report.Report | None:
         """Writes what is left, but for the report, which is answered if there is one."""
         left = self.tail.left()
-        parted = report.part(left)
+        parted = report.part(left) if is_reported else None
         output, found = parted or (memoryview(left), None)
         self._take(bytes(output))
         self._give(False, self.marks.left())
@@ -257,7 +256,7 @@ class Watch:
                 raise kind(seconds, self.outputs.received, self.outputs.files) from None
             finally:
                 self.outputs.clear()
-        found = self.outputs.end()
+        found = self.outputs.end(report.is_reported(status, self.job.options.profile is not None))
         outputs = self.outputs
         return Done(status, found, bytes(self.said), seconds, outputs.notes, outputs.files, outputs.is_line_whole, outputs.has_null, outputs.digest)
 

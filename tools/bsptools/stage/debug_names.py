@@ -5,7 +5,7 @@ from __future__ import annotations
 import contextlib
 import os
 import pathlib
-from typing import Any, Dict, Iterator, List
+from typing import Any, Dict, Iterable, Iterator, List
 
 from .. import memory_bound
 from ..files import named_content
@@ -19,8 +19,8 @@ from ..refusals import Refused
 from .frame_rules import rules
 from .type_table import TypeTable
 
-# Of all sources together, and of a program's functions.
-MOST_SOURCES, MOST_DEEP = 4 << 20, 40
+# Of all sources together: links may give one file very many names. And of a program's functions.
+MOST_SOURCES, MOST_DEEP = 1 << 24, 40
 
 # How names of sources and headers end.
 SUFFIXES = {".c", ".C", ".cc", ".cpp", ".cxx", ".c++", ".h", ".hh", ".hpp", ".hxx", ".inc", ".i", ".s", ".S"}
@@ -35,16 +35,16 @@ class Names:
 
     def __init__(self, code: Code) -> None:
         self.code, self.types = code.know_names(), TypeTable()
-        self.paths: List[str] = []
+        self.paths: Dict[str, int] = {}
 
     def data(self, shown: str) -> Data:
         """All of it. The first source is the one whose path is given, if the program has it."""
         if shown:
-            self.paths.append(os.path.abspath(shown))
+            self.file(shown)
         lines = list(self.lines())
         scopes, variables = self.scopes(), self.globals()
         return {
-            "sources": [{"name": pathlib.PurePath(it).name, "text": text_of(it)} for it in self.paths],
+            "sources": sources(self.paths),
             "lines": lines,
             "functions": [[start, size, called] for start, size, called in self.code.functions if called],
             "labels": {} if self.code.debug else {called: start for start, _, called in self.code.functions},
@@ -57,10 +57,7 @@ class Names:
 
     def file(self, path: str) -> int:
         """The number of a source."""
-        path = os.path.abspath(path)
-        if path not in self.paths:
-            self.paths.append(path)
-        return self.paths.index(path)
+        return self.paths.setdefault(os.path.abspath(path), len(self.paths))
 
     def lines(self) -> Iterator[int]:
         """Start, end, file and line of each piece of code of the program's own, one behind another."""
@@ -175,8 +172,14 @@ def unit_path(unit: Any) -> str:
     return os.path.join(os.fsdecode(folder.value) if folder else "", os.fsdecode(file.value))
 
 
-def text_of(path: str) -> str:
-    """The text of a source; nothing if it cannot be read."""
-    with contextlib.suppress(Refused):
-        return named_content(path, MOST_SOURCE).decode(errors="replace")
-    return ""
+def sources(paths: Iterable[str]) -> List[Data]:
+    """The names and texts of sources. One that cannot be read, or for which there is no room behind the others, has no text."""
+    found: List[Data] = []
+    room = MOST_SOURCES
+    for path in paths:
+        text = ""
+        with contextlib.suppress(Refused):
+            text = named_content(path, min(room, MOST_SOURCE)).decode(errors="replace")
+        room -= len(text)
+        found.append({"name": pathlib.PurePath(path).name, "text": text})
+    return found

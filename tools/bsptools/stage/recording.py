@@ -19,7 +19,7 @@ from .. import children
 from ..files import content_of
 from ..framed.environment_calls import GETS, REQUESTS, SEND
 from ..framed.session import ALL, Node, Session, node_of, signed
-from ..outputs.report import part
+from ..outputs.report import of_run
 from ..prepare.job import Job
 from ..program import elf
 
@@ -210,8 +210,10 @@ def data_ranges(job: Job) -> Iterator[Tuple[int, int]]:
     """The program's data: of an executable what can be written, and of an image all of it."""
     left = MOST_DATA
     for start, count in parts_of(job):
-        yield start, min(count, left)
-        left -= min(count, left)
+        if count > 0 and left > 0:
+            yield start, min(count, left)
+        # Of each part whole pages are looked at, and there may be very many parts.
+        left -= max(count, PAGE if count > 0 else 0)
 
 
 def parts_of(job: Job) -> Iterator[Tuple[int, int]]:
@@ -238,7 +240,7 @@ def record(job: Job, folder: pathlib.Path, points: List[int], room: Room) -> Dic
     limit = min(job.options.limit, max(1, room.steps // job.options.nodes))
     words[words.index("--limit") + 1] = str(limit)
     done = children.call(words, stdout=subprocess.PIPE, stderr=subprocess.DEVNULL)
-    found = part(done.stdout)
+    found = of_run(done.stdout, done.returncode, writes_more=True)
     if found is None or len(done.stdout) > MOST_PROFILE:
         return None
     output, report = found

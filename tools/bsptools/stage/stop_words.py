@@ -8,7 +8,7 @@ from typing import Any, Dict
 
 from .. import children
 from ..diagnosis.stop_reasons import Why
-from ..outputs.report import Report, part
+from ..outputs.report import Report, of_run
 from ..prepare.job import Job
 from ..refusals import Refused
 
@@ -40,7 +40,7 @@ def report(job: Job, limit: int) -> Report | None:
         while content := process.stdout.read(CHUNK):
             kept += content
             del kept[:-MOST_KEPT]
-        found = part(bytes(kept))
+        found = of_run(bytes(kept), process.wait())
         return None if found is None else found[1]
     finally:
         children.end(process)

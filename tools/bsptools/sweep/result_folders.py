@@ -51,5 +51,7 @@ def part(folder: pathlib.Path, *names: str) -> pathlib.Path:
 
 
 def new(folder: pathlib.Path, name: str) -> pathlib.Path:
-    """A new folder below one of this name in the results, which none but this user may enter."""
+    """A new folder below one of this name in the results, which none but this user may enter. It is for what a shell is given: where others may
+    rename the results, it could be theirs by then, and is refused."""
+    own_folders.expect_held(folder)
     return pathlib.Path(tempfile.mkdtemp(dir=part(folder, name)))

@@ -44,8 +44,11 @@ def others_now(sought: Mapping[str, str], folder: str = os.curdir) -> list[str]:
     return changed or [it for it in dict.fromkeys(beside) if it not in known]
 
 
-def changed_line(path: str) -> str:
-    """What is told of a file that has changed since a run read it."""
+def changed_line(path: str, sought: Mapping[str, str]) -> str:
+    """What is told of a file that has changed since a run read it, or that it looked for, and that is here and was not given to it: bsprun
+    does not repeat a run for it that has written much."""
+    if sought.get(path) == "":
+        return f"{path} is here, and the run began without it: give it by --file"
     return f"{path} has changed since the run began: start the sweep again"
 
 
@@ -92,8 +95,8 @@ class Place(NamedTuple):
         if os.path.lexists(self.file("failed")):
             return own_content(self.file("failed"), MOST_TABLE).decode(errors="replace").strip().splitlines()
         record = self._kept(MAIN)
-        others = others_now(record["sought"]) if record is not None else []
-        return [changed_line(it) for it in others] or ["not made: whatever made it has ended before it"]
+        sought = record["sought"] if record is not None else {}
+        return [changed_line(it, sought) for it in others_now(sought)] or ["not made: whatever made it has ended before it"]
 
     @property
     def ticket(self) -> pathlib.Path:

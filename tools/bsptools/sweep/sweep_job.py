@@ -17,8 +17,8 @@ from ..files import believed_content, content_of, put
 from ..limits import MOST_PROGRAM, MOST_TABLE
 from ..options import FLAGS
 from ..outputs.output_records import writes_files
-from ..outputs.report_formats import read, sought_in
-from ..refusals import REFUSED, Refused
+from ..outputs.report_formats import read, sought_in, taken_in
+from ..refusals import REFUSED, Refused, counted
 from ..sealed_results import digest
 from .result_store import Place, Record, changed_line, others_now
 
@@ -43,8 +43,8 @@ def make(folder: str, copy: str) -> int:
         done = children.call(words, stdout=subprocess.PIPE, stderr=subprocess.PIPE, cwd=job["folder"], env=environment)
         content = report.read_bytes() if report.exists() else b""
     put(place.file("seconds", copy), f"{time.monotonic() - start:.3f}\n")
-    sought = sought_in(content) if content else {}
-    other = changed(job, sought)
+    sought, few = (sought_in(content), taking_fewer(content)) if content else ({}, "")
+    other = few or changed(job, sought)
     if not content or other:
         said = done.stderr.decode(errors="replace").strip() or f"bsprun has ended with status {done.returncode}, and no report"
         put(place.file("failed", copy), other or said + "\n")
@@ -65,13 +65,19 @@ def described(place: Place) -> dict[str, Any]:
     raise Refused(f"{place.job} does not describe a run: start the sweep again")
 
 
+def taking_fewer(report: bytes) -> str:
+    """A line where the run was made on fewer nodes than its row has, because the program takes no more in bsp_begin."""
+    count = taken_in(report)
+    return f"the program takes {counted(count, 'node')} in bsp_begin: give --nodes no more\n" if count else ""
+
+
 def changed(job: dict[str, Any], sought: Mapping[str, str]) -> str:
     """A line where a file that a run rests on is not what it was when the sweep began; or, of those that its program looked for, when it was
     read."""
     for path, known in job["digests"]:
         if digest(content_of(os.path.join(job["folder"], path), MOST_PROGRAM)) != known:
             return f"{path} has changed since the sweep began: start the sweep again\n"
-    return "".join(f"{changed_line(it)}\n" for it in others_now(sought, job["folder"]))
+    return "".join(f"{changed_line(it, sought)}\n" for it in others_now(sought, job["folder"]))
 
 
 def record(report: bytes, done: subprocess.CompletedProcess[bytes]) -> Record:

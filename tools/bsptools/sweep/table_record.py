@@ -26,6 +26,8 @@ DEVICES = ("/dev/", "/proc/")
 DIGEST, DIGITS = re.compile("[0-9a-f]{64}"), 12
 # How names of images begin in a list of differences, and of how many each has its line: a changed header changes all of them.
 IMAGES, MOST_IMAGES = "images: ", 3
+# Options that ask for something else than a table: with one of them none would be made, and the status would be 0.
+ASKING = {"-h", "--help", "--version"}
 # Options that say who makes the runs and where the table goes, with how many words follow each. None of them changes the table.
 ASIDE = {"-o": 1, "--output": 1, "--folder": 1, "--engine": 1, "--jobs": 1, "--hosts": 1, "--sbatch": 1, "--again": 1, "--script": 0, "--check": 0}
 
@@ -39,7 +41,7 @@ def beside(output: str | None) -> str | None:
 
 def expect_own(path: str | None) -> None:
     """Refuses to write a record over a file that is none."""
-    if path is not None and os.path.lexists(path) and MADE_BY not in (_parsed(path) or {}):
+    if path is not None and os.path.lexists(path) and not (os.path.isfile(path) and MADE_BY in (_parsed(path) or {})):
         raise Refused(f"{path} is the name of the table's record, but something else has that name: move it, or give another -o")
 
 
@@ -56,7 +58,7 @@ def read(path: str) -> Record:
     """A record, as `made` makes it."""
     found = _parsed(path)
     words = (found or {}).get(COMMAND)
-    if found is None or MADE_BY not in found or not isinstance(words, list) or not all(map(_is_word, words)):
+    if found is None or MADE_BY not in found or not isinstance(words, list) or not all(map(_is_word, words)) or not ASKING.isdisjoint(words):
         raise Refused(f"{path} is not the record of a table, which bspsweep -o FILE writes into FILE.json")
     return found
 

@@ -316,6 +316,8 @@ class Telling:
             '                printf("%s %d\\n", names[i], number);\n    }\n    return 0;\n}\n'
         )
         self.expect("a word that is a file", self.run("reads.c", "in.txt"), 0, "in.txt 12\nin.txt 5\n")
+        for name, target in (("itself.txt", "itself.txt"), ("nowhere.txt", "no.txt")):
+            (self.folder / "data" / name).symlink_to(target)
         self.expect("a folder", self.run("--files", "data", "reads.c", "two.txt", "data/one.txt"), 0, "two.txt 8\ndata/one.txt 7\n")
         done = self.run("--files", "data", "reads.c", "elsewhere/one.txt", "/there/two.txt")
         self.expect("a folder, by other paths", done, 0, "elsewhere/one.txt 7\n/there/two.txt 8\n")

@@ -23,9 +23,9 @@ from .compilation import SOURCES
 # The section, and what begins each text in it: the `record_program` of bspcc has the form.
 SECTION, SOURCE, LINKED = ".bspcc.sources", "bspcc source", "bspcc "
 MOST_UNITS = 1000
-# Options that are taken, and those that have a value in the next word.
+# Options that are taken, and those that have a value in the next word. GCC hands the value of -I, too, to its parts as a word by itself.
 TAKEN = re.compile(
-    r"-[DUILl].+|-std=[\w+]+|-ansi|-O[0-3sgz]?|-march=\w+|-mabi=\w+|--small|--check"
+    r"-[DUILl][^-@].*|-std=[\w+]+|-ansi|-O[0-3sgz]?|-march=\w+|-mabi=\w+|--small|--check"
     r"|-f(?:no-)?(?:(?:un)?signed-char|(?:un)?signed-bitfields|short-enums|common|permissive|builtin(?:-\w+)?|wrapv|rtti|exceptions|openmp)"
 )
 VALUED = {"-D", "-U", "-I", "-L", "-l", "-include", "-imacros", "-isystem", "-iquote", "-idirafter", "--stack"}
@@ -68,7 +68,7 @@ def misfit(units: list[Unit]) -> str:
     """Why a program cannot be built again of its sources; nothing if it may."""
     for it in sources_of(units):
         # GCC takes what has another name for something else than a source.
-        if not it.path.endswith(SOURCES):
+        if not it.path.endswith(SOURCES) or not is_plain(os.path.basename(it.path)):
             return f"{it.path} has no name of a source"
         try:
             content = named_content(it.path, MOST_SOURCE)
@@ -94,7 +94,7 @@ def taken(unit: Unit) -> list[str]:
 
 def is_plain(word: str) -> bool:
     """Whether a word is a value or a file wherever it stands. bspcc takes some options away, so that what is behind one of them would be an
-    option again; and GCC reads options from the file that a word with @ in front names."""
+    option again; and GCC reads options from the file that a word with @ in front names, as may be the last name of a source."""
     return word[:1] not in ("", "-", "@")
 
 

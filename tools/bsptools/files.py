@@ -124,12 +124,14 @@ def replaced(path: str | os.PathLike[str]) -> Iterator[str]:
     A link stays, and leads to the new file. What is not a regular file, as a pipe, is written to as it is. In a folder where others may rename
     what is there, the new file is written by its number: a link could have its name by then.
     """
-    _expect_own_link(path)
-    target = os.path.realpath(path)
-    if os.path.exists(path) and not os.path.isfile(path):
-        yield _name_elsewhere(os.fspath(path))
+    place, is_special = _own_place(path)
+    folder = os.path.realpath(os.path.dirname(place))
+    target = os.path.join(folder, os.path.basename(place))
+    # What is open in this process has a name there, and its link leads to no path.
+    is_open = folder.startswith("/proc/") and os.path.exists(path)
+    if is_open or is_special:
+        yield _name_elsewhere(os.fspath(path) if is_open else target)
         return
-    folder = os.path.dirname(target)
     beside = os.path.join(folder, beside_name())
     with about(path):
         number = os.open(beside, os.O_RDONLY | os.O_CREAT | os.O_EXCL, 0o666)
@@ -175,18 +177,25 @@ def _expect_same(number: int, beside: str, path: str | os.PathLike[str]) -> None
         raise Refused(f"{os.fspath(path)} was not written: another process has replaced {beside}")
 
 
-def _expect_own_link(path: str | os.PathLike[str]) -> None:
-    """Refuses a link that another user has put into a folder for all, as /tmp, and that may lead to a file of this user's. So does Linux where
-    a file is opened in a folder with the sticky bit, but not where one is replaced."""
+def _own_place(path: str | os.PathLike[str]) -> tuple[str, bool]:
+    """Where a path leads by links at its end, and whether something is there that is no regular file. Each link is read as it was looked at:
+    another one may have its name at any time. One is refused that another user has put into a folder for all, as /tmp, and that may lead to a
+    file of this user's; and so is a pipe there. So does Linux where a file is opened in a folder with the sticky bit, but not where one is
+    replaced."""
     place = os.fspath(path)
     for _ in range(MOST_LINKS):
         folder = os.path.dirname(place) or os.curdir
-        if not os.path.islink(place):
-            return
-        link, above = os.lstat(place), os.stat(folder)
-        if above.st_mode & stat.S_IWOTH and link.st_uid not in (os.geteuid(), above.st_uid):
-            raise Refused(f"{os.fspath(path)} is a symbolic link of another user: give another name")
+        try:
+            found, above = os.lstat(place), os.stat(folder)
+        except OSError:
+            return place, False
+        is_link = stat.S_ISLNK(found.st_mode)
+        if (is_link or stat.S_ISFIFO(found.st_mode)) and above.st_mode & stat.S_IWOTH and found.st_uid not in (os.geteuid(), above.st_uid):
+            raise Refused(f"{os.fspath(path)} is a {'symbolic link' if is_link else 'pipe'} of another user: give another name")
+        if not is_link:
+            return place, not stat.S_ISREG(found.st_mode)
         place = os.path.join(folder, os.readlink(place))
+    return place, False
 
 
 def _keep_mode(path: str, new: int) -> None:

@@ -23,6 +23,8 @@ IN_WHEEL = pathlib.Path(__file__).resolve().parents[1] / "bspemu/share"
 # The repository that this package is in, or what a wheel has of it.
 REPO = IN_WHEEL if IN_WHEEL.exists() else pathlib.Path(__file__).resolve().parents[2]
 QUIET_SECONDS = 2
+# What names another repository to git than the folder does, as in a hook of that repository.
+OF_GIT = ("GIT_DIR", "GIT_WORK_TREE", "GIT_INDEX_FILE", "GIT_COMMON_DIR", "GIT_OBJECT_DIRECTORY")
 
 
 def program(name: str) -> str:
@@ -88,14 +90,19 @@ def said(*words: str) -> str:
     return heard(*words)[0]
 
 
+def describing(folder: str | os.PathLike[str]) -> list[str]:
+    """The words by which git says the commit of a checkout, whatever repository the environment names."""
+    without = [it for name in OF_GIT for it in ("-u", name)]
+    return ["env", *without, "git", "-C", os.fspath(folder), "describe", "--always", "--dirty", "--exclude=*"]
+
+
 def version(name: str) -> list[str]:
     """Lines that say what a tool is, of which commit if that is known, and which emulator it starts, or why there is none."""
     commit = ""
     with contextlib.suppress(Refused, OSError):
         is_checkout = (REPO / ".git").exists()
-        git = ("git", "-C", str(REPO), "describe", "--always", "--dirty", "--exclude=*")
         # scripts/install notes it where it is known.
-        commit = ", commit " + (said(*git) if is_checkout else (REPO / "commit").read_text().strip())
+        commit = ", commit " + (said(*describing(REPO)) if is_checkout else (REPO / "commit").read_text().strip())
     try:
         path = proved_program()
         told = [f"{said(emulator(), '--version')}: {known(path)}"]

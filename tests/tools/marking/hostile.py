@@ -238,10 +238,11 @@ def hidden(tally: Tally, folder: pathlib.Path) -> None:
 # Calls that GCC replaces, or makes of others, by what a sheet says of them, with the verdicts.
 REPLACED = {
     'require = ["printf"]': {"prints.c": "right", "puts.c": "not allowed", "built_in.c": "right"},
-    'forbid = ["puts"]': {"prints.c": "right", "puts.c": "not allowed"},
+    'forbid = ["puts"]': {"prints.c": "right", "puts.c": "not allowed", "variable.c": "right"},
     'forbid = ["printf", "memcpy", "fabs", "malloc", "strlen"]': {
         "puts.c": "right", "prints.c": "not allowed", "built_in.c": "not allowed", "looks.c": "not allowed", "copies.c": "not allowed",
         "fabs.c": "not allowed", "malloc.c": "not allowed", "strlen.c": "not allowed", "first_value.c": "not allowed", "in_comment.c": "right",
+        "learns.c": "not allowed", "guesses.c": "not allowed",
     },
 }  # fmt: skip
 CALLS = {
@@ -250,9 +251,12 @@ CALLS = {
     "copies.c": 'char it[4]; memcpy(it, "it", 3); puts(it);', "fabs.c": 'volatile double it = -1; puts(fabs(it) > 0 ? "it" : "");',
     "malloc.c": 'char *it = malloc(3); it[0] = 0; free(it); puts("it");', "strlen.c": 'puts(strlen("it") == 2 ? "it" : "");',
     "first_value.c": 'puts(FIRST > 0 ? "it" : "");', "in_comment.c": '/* printf("it") */ puts(FIRST > 0 ? "it" : "");',
+    "learns.c": 'static char it[4000]; COPY(it, "it", bsp_nprocs() + 2); puts(it);', "variable.c": 'int puts = 1; printf(puts ? "it\\n" : "");',
+    "guesses.c": 'static char it[4000]; if (__builtin_constant_p(strcmp("a", "b"))) memcpy(it, "it", bsp_nprocs() + 2); else it[0] = 105, it[1] = 116; puts(it);',
 }  # fmt: skip
-# First values that are constants only where GCC knows what a function computes.
-FIRST = {"first_value.c": "static double FIRST = fabs(-1.0);", "in_comment.c": "static double FIRST = sqrt(4.0);"}
+# First values that are constants only where GCC knows what a function computes; and a name of bspcheck's where GCC replaces nothing.
+LEARNS = "#ifdef __builtin_memcpy\n#define COPY(to, from, size) memmove(to, from, size)\n#else\n#define COPY memcpy\n#endif"
+FIRST = {"learns.c": LEARNS, "first_value.c": "static double FIRST = fabs(-1.0);", "in_comment.c": "static double FIRST = sqrt(4.0);"}
 
 
 def replaced(tally: Tally, folder: pathlib.Path) -> None:

@@ -242,14 +242,17 @@ class Trial:
 
     def find_calls(self, part: pathlib.Path, called: Set[str]) -> None:
         """Which of the calls that the sheet names the hand-in makes, each with its line, or 0 if the text does not have it: by the object that
-        is linked, but for names that GCC may have put there, and by the names that are called where it replaces nothing."""
+        is linked, and by the names that are called where GCC replaces nothing. A name in the object that GCC may have put there counts if the text
+        calls it, or has it in a line of the preprocessor: a text can learn that it is compiled once more, and call another function there."""
         linked = names_of(part)
         if not linked:
             raise Refused(f"{part.name} has no names of functions")
         text = self.bare_text()
         for name in self.plan.calls:
-            if name in called or name in linked - REPLACING:
-                found = re.search(rf"\b(?:__builtin_)?{re.escape(name)}\b", text)
+            word = rf"\b(?:__builtin_)?{re.escape(name)}\b"
+            is_spelled = re.search(rf"(?m){word}\s*\(|^[ \t]*#.*{word}", text) is not None
+            if name in called or name in linked and (is_spelled or name not in REPLACING):
+                found = re.search(word, text)
                 self.found.calls[name] = text.count("\n", 0, found.start()) + 1 if found else 0
 
     def bare_text(self) -> str:

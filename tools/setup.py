@@ -22,7 +22,7 @@ SHARE = "bspemu/share"
 GIT = ["git", "describe", "--always", "--dirty", "--exclude=*"]
 
 
-class WithShare(build_py):  # type: ignore[misc]
+class WithShare(build_py):
     """The packages, with what they stand on."""
 
     def run(self) -> None:
@@ -44,7 +44,7 @@ class WithShare(build_py):  # type: ignore[misc]
             (share / "commit").write_text(described.stdout, encoding="utf-8")
 
 
-class ForLinux(bdist_wheel):  # type: ignore[misc]
+class ForLinux(bdist_wheel):
     """A wheel for any Python 3 on Linux of x86-64, for which the emulator in it is."""
 
     def finalize_options(self) -> None:

@@ -102,7 +102,7 @@ def faults(page: devtools.Page, path: pathlib.Path, program: str) -> Iterator[Tu
     look = Look(page, path.as_uri(), program)
     look.forget(True)
     checks = (
-        starts, runs, compiled, refuses, fails, many, settings, steps, points, places, still, links, long_links, keeps, ends, blank_lines, hostile,
+        starts, runs, compiled, refuses, fails, many, settings, steps, points, places, still, links, long_links, keeps, full, ends, blank_lines, hostile,
         drops, keys, focus, named, prints, widths,
     )  # fmt: skip
     for check in checks:
@@ -327,6 +327,19 @@ def keeps(look: Look) -> str:
     saved = look.page.wait("document.saved")
     is_right = is_example and first == "x" and name == "my ranks.s" and nodes == "9" and saved.startswith("x# Each rank")
     return "" if is_right and look.page.run("document.savedName") == "ranks.s" else f"{is_example} {first} {name} {nodes} {saved[:20]}"
+
+
+def full(look: Look) -> str:
+    """If the browser has no room for a program, the page says so, and the browser asks before it loses it."""
+    asks = "(() => { const it = new Event('beforeunload', { cancelable: true }); dispatchEvent(it); return it.defaultPrevented; })()"
+    look.page.run("window.setItem = Storage.prototype.setItem; Storage.prototype.setItem = () => { throw new DOMException('full', 'QuotaExceededError'); };")
+    before = look.page.run(asks)
+    look.page.run(f"{EDITOR}.replaceSelection('x', 'end', '+input')")
+    said, after = look.page.run(STATUS), look.page.run(asks)
+    look.page.run("Storage.prototype.setItem = window.setItem;")
+    again = look.page.run(asks)
+    is_right = said.startswith("The browser cannot keep your programs: save each before") and (before, after, again) == (False, True, False)
+    return "" if is_right else f"{said} {before} {after} {again}"
 
 
 def ends(look: Look) -> str:

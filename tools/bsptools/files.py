@@ -124,19 +124,18 @@ def replaced(path: str | os.PathLike[str]) -> Iterator[str]:
     A link stays, and leads to the new file. What is not a regular file, as a pipe, is written to as it is. In a folder where others may rename
     what is there, the new file is written by its number: a link could have its name by then.
     """
-    place, is_special = _own_place(path)
-    folder = os.path.realpath(os.path.dirname(place))
-    target = os.path.join(folder, os.path.basename(place))
+    target, is_special = _own_target(path)
     # What is open in this process has a name there, and its link leads to no path.
-    is_open = folder.startswith("/proc/") and os.path.exists(path)
+    is_open = target.startswith("/proc/") and os.path.exists(path)
     if is_open or is_special:
         yield _name_elsewhere(os.fspath(path) if is_open else target)
         return
+    folder = os.path.dirname(target)
     beside = os.path.join(folder, beside_name())
     with about(path):
         number = os.open(beside, os.O_RDONLY | os.O_CREAT | os.O_EXCL, 0o666)
     try:
-        yield beside if own_folders.is_held(folder) else f"/proc/{os.getpid()}/fd/{number}"
+        yield beside if own_folders.is_held(folder) and not own_folders.is_of_group(folder) else f"/proc/{os.getpid()}/fd/{number}"
         with about(path):
             _keep_mode(target, number)
             if os.fstat(number).st_size > 0:
@@ -177,25 +176,37 @@ def _expect_same(number: int, beside: str, path: str | os.PathLike[str]) -> None
         raise Refused(f"{os.fspath(path)} was not written: another process has replaced {beside}")
 
 
-def _own_place(path: str | os.PathLike[str]) -> tuple[str, bool]:
-    """Where a path leads by links at its end, and whether something is there that is no regular file. Each link is read as it was looked at:
-    another one may have its name at any time. One is refused that another user has put into a folder for all, as /tmp, and that may lead to a
-    file of this user's; and so is a pipe there. So does Linux where a file is opened in a folder with the sticky bit, but not where one is
-    replaced."""
-    place = os.fspath(path)
+def _own_target(path: str | os.PathLike[str]) -> tuple[str, bool]:
+    """What a name leads to, and whether something is there that is no regular file. A link that another user has put where others may write may
+    lead to a file of this user's, and a pipe of theirs may be such a link by the time it is opened: both are refused. So does Linux where a file
+    is opened in a folder with the sticky bit, but not where one is replaced. Each link is opened once, because another one may have its name a
+    moment later."""
+    place, is_special = os.fspath(path), False
     for _ in range(MOST_LINKS):
         folder = os.path.dirname(place) or os.curdir
         try:
-            found, above = os.lstat(place), os.stat(folder)
+            number = os.open(place, os.O_PATH | os.O_NOFOLLOW)
         except OSError:
-            return place, False
-        is_link = stat.S_ISLNK(found.st_mode)
-        if (is_link or stat.S_ISFIFO(found.st_mode)) and above.st_mode & stat.S_IWOTH and found.st_uid not in (os.geteuid(), above.st_uid):
-            raise Refused(f"{os.fspath(path)} is a {'symbolic link' if is_link else 'pipe'} of another user: give another name")
-        if not is_link:
-            return place, not stat.S_ISREG(found.st_mode)
-        place = os.path.join(folder, os.readlink(place))
-    return place, False
+            break
+        try:
+            found = os.fstat(number)
+            _expect_own(path, found, folder)
+            if not stat.S_ISLNK(found.st_mode):
+                is_special = not stat.S_ISREG(found.st_mode)
+                break
+            place = os.path.join(folder, os.readlink("", dir_fd=number))
+        finally:
+            os.close(number)
+    return os.path.join(os.path.realpath(os.path.dirname(place)), os.path.basename(place)), is_special
+
+
+def _expect_own(path: str | os.PathLike[str], found: os.stat_result, folder: str) -> None:
+    """Refuses a link or a pipe of another user in a folder where others may write, unless it is the folder's owner's, or root's."""
+    above = os.stat(folder)
+    is_plain = stat.S_ISREG(found.st_mode) or stat.S_ISDIR(found.st_mode)
+    if not is_plain and above.st_mode & own_folders.OTHERS_WRITE and found.st_uid not in (0, os.geteuid(), above.st_uid):
+        kind = "symbolic link" if stat.S_ISLNK(found.st_mode) else "pipe"
+        raise Refused(f"{os.fspath(path)} is a {kind} of another user: give another name")
 
 
 def _keep_mode(path: str, new: int) -> None:

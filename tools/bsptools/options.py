@@ -5,6 +5,7 @@ from __future__ import annotations
 import argparse
 import os
 import re
+import shlex
 from collections.abc import Callable
 from typing import Any, NoReturn
 
@@ -35,6 +36,8 @@ WHOLE_WORDS = ("-g", "-g3", "-ggdb", "-w", "-pedantic", "-pedantic-errors", "-pt
 FOR_COMPILER = re.compile(
     r"-(D[A-Za-z_]\w*(=.*)?|I.+|O[0-3sgz]|lm|W(all|extra)|pedantic(-errors)?|pthread|std=.+|m(arch|abi)=.+)", re.ASCII
 )
+# How argparse refuses an option without a value.
+LACKING = re.compile(r"argument (\S+): expected one argument")
 KINDS = ("elf", "asm", "raw", "c")
 # What the help calls a value that names a file or a folder.
 NAMING = ("FILE", "DIR", "FOLDER", "PROGRAM", "SOURCE")
@@ -102,10 +105,18 @@ class Parser(argparse.ArgumentParser):
         return found, rest
 
     def error(self, message: str) -> NoReturn:
-        """Says what is wrong, and how a file is given whose name was taken for options."""
+        """Says what is wrong, and how a file or a value is given that was taken for options."""
         names = [it for it in self._words if it.startswith("-") and os.path.isfile(it)]
         lines = [f"{it} is a file here, and begins as options do: give it as ./{it}" for it in names[:1]]
-        raise Refused(f"{message}; {self.prog} --help lists the options", *lines)
+        raise Refused(f"{message}; {self.prog} --help lists the options", *lines or self._dashed(message))
+
+    def _dashed(self, message: str) -> list[str]:
+        """How the value is given which a refused option lacks, if the next word is no other option and begins as options do."""
+        lacking = LACKING.match(message)
+        names = lacking[1].split("/") if lacking else []
+        values = [value for word, value in zip(self._words, self._words[1:]) if word in names and value.startswith("-")]
+        fitting = [it for it in values if it.partition("=")[0] not in self._option_string_actions]
+        return [f"{it} begins as options do: if it is the value, give it as {shlex.quote(f'{names[-1]}={it}')}" for it in fitting[:1]]
 
     def own(self, words: list[str], rest: list[str]) -> list[str]:
         """What looks like options of this parser in the rest of a command line, which is another's. One that stands in front of that too is

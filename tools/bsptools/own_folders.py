@@ -56,6 +56,13 @@ def is_held(path: str | os.PathLike[str]) -> bool:
     return found.st_uid in (0, os.geteuid()) and not (found.st_mode & stat.S_IWOTH and not found.st_mode & stat.S_ISVTX)
 
 
+def is_of_group(path: str | os.PathLike[str]) -> bool:
+    """Whether the members of a group may rename what is in a folder. They may be none but this user: such a folder is held, and what is made
+    there only has to be written by its number."""
+    mode = os.stat(path).st_mode
+    return bool(mode & stat.S_IWGRP) and not mode & stat.S_ISVTX
+
+
 def expect_held(path: str | os.PathLike[str]) -> None:
     """Refuses a folder in one where others may rename what is there: while it is filled, a link could take its place, and later another one."""
     above = next(filter(os.path.exists, pathlib.Path(path).absolute().parents))

@@ -125,6 +125,13 @@ function connect(program, editor) {
   $("point").onclick = () => stepping.toggle(editor.getCursor().line);
   $("rank").onchange = $("address").onchange = $("base").onchange = () => stepping.work(async () => {});
   addEventListener("pagehide", () => program.keep());
+  // The browser asks first where this would lose a program.
+  addEventListener("beforeunload", (event) => {
+    program.keep();
+    if (!program.isKept) {
+      event.preventDefault();
+    }
+  });
   connectPrinter(program, editor);
   connectFiles(program);
   addEventListener("hashchange", () => program.follow(location.hash.slice(1)));

@@ -67,7 +67,7 @@ function textIn(name, bytes) {
 class Program {
   constructor(editor, bspemu, examples, changed) {
     // What was written, changed or opened here is one's own: `at` says which of them is shown.
-    Object.assign(this, { editor, bspemu, examples, changed, name: "", image: undefined, own: [], at: -1, timer: 0 });
+    Object.assign(this, { editor, bspemu, examples, changed, name: "", image: undefined, own: [], at: -1, timer: 0, isKept: true });
     editor.on("change", (_, change) => change.origin !== "setValue" && this.edited());
   }
 
@@ -120,8 +120,13 @@ class Program {
     const numbers = Object.fromEntries([...LINKED, "most"].map((id) => [id, $(id).value]));
     try {
       sessionStorage.setItem(KEPT, JSON.stringify({ own: this.own, numbers, hash: location.hash, chosen: $("examples").value }));
+      this.isKept = true;
     } catch {
       // There is no room for them, or the browser keeps nothing.
+      if (this.isKept && this.own.length > 0) {
+        say("The browser cannot keep your programs: save each before you close or load the page.", true);
+      }
+      this.isKept = this.own.length === 0;
     }
   }
 

@@ -40,11 +40,15 @@ exec sh -c "$*"
 # Stands for Slurm: it makes the tasks of a script one after another.
 SBATCH = """\
 #!/bin/sh
-while [ $# -gt 1 ]; do shift; done
-last=$(sed -n 's/^#SBATCH --array=0-\\([0-9]*\\).*/\\1/p' "$1")
+last=
+while [ $# -gt 1 ]; do
+    case $1 in --array=*) last=${1#*-*-*-} ;; esac
+    shift
+done
+last=${last:-$(sed -n 's/^#SBATCH --array=0-\\([0-9]*\\).*/\\1/p' "$1")}
 task=0
 while [ "$task" -le "$last" ]; do
-    SLURM_ARRAY_TASK_ID=$task sh "$1"
+    SLURM_ARRAY_TASK_ID=$task SLURM_ARRAY_TASK_COUNT=$((last + 1)) sh "$1"
     task=$((task + 1))
 done
 """
@@ -640,6 +644,9 @@ def hostile(check: Check) -> None:
     (stub / "sbatch").write_text(SBATCH)
     (stub / "sbatch").chmod(0o755)
     text, path = table(check, TWO), f"{stub}:{os.environ['PATH']}"
+    done = check.tool("bspsweep", "--engine", "slurm", "--sbatch=--array=0-0", "--folder", "few", *TWO, environment={"PATH": path})
+    check.expect("fewer tasks of Slurm than runs", done.stdout == text, done.stderr)
+    shutil.rmtree(check.folder / "few")
     for name in ("$(touch pwned)", "a;touch pwned", "a\n'b'", "--wait", "%j #x"):
         done = check.tool("bspsweep", "--engine", "slurm", f"--folder={name}", *TWO, environment={"PATH": path})
         left = [it.name for it in check.folder.iterdir() if it.name not in ("bin", "plain")]

@@ -126,18 +126,19 @@ def measured(options: argparse.Namespace) -> tuple[list[Samples], str]:
     if is_busy:
         tell([f"bspprobe: other programs use this host: its load is {load:.1f}, on {counted(processors(), 'processor')}; {QUIET}"])
     with children.folder("bspprobe") as folder:
+        helping: list[str] = []
         if options.program:
-            words, how = probing.command(options.program), shlex.quote(options.program)
+            words, how = probing.command(options.program, probing.PROGRAM), shlex.quote(options.program)
         else:
-            start = probing.command(options.mpirun) if options.mpi else []
-            words = [*start, probing.compiled(folder, options.mpi)]
+            start = probing.command(options.mpirun, probing.MPIRUN) if options.mpi else []
+            words, helping = [*start, probing.compiled(folder, options.mpi)], probing.hints(folder, options.mpi)
             how = f"{probing.compiler(options.mpi)} -O2, bsplib/native by {'MPI' if options.mpi else 'processes'}"
             how += f", load {load:.1f}" * is_busy
         found = []
         for p in numbers:
             warn_of_few_processors(p, bool(options.mpi or options.program))
             show(f"measuring on {p} {'process' if p == 1 else 'processes'} ..")
-            found.append(probing.measured(words, setting, p))
+            found.append(probing.measured(words, setting, p, helping))
             show("", end="")
     return found, how
 

@@ -19,6 +19,8 @@ LIBRARY = REPO / "bsplib/native"
 SOURCE = LIBRARY / "probe.c"
 # Where a command has the number of processes.
 P = "{p}"
+# The options that have a command.
+PROGRAM, MPIRUN = "--program", "--mpirun"
 
 
 class Setting(NamedTuple):
@@ -51,6 +53,13 @@ def called(words: Sequence[str], p: int) -> bytes:
     return printed
 
 
+def hints(folder: pathlib.Path, is_mpi: bool) -> list[str]:
+    """What may help where the program of this folder does not run."""
+    if os.statvfs(folder).f_flag & os.ST_NOEXEC:
+        return [f"programs may not run in {folder.parent}, which is mounted with noexec: set TMPDIR to another folder"]
+    return [f"if mpirun uses several hosts, all have to see {folder.parent}: set TMPDIR to a folder that they share"] if is_mpi else []
+
+
 def compiled(folder: pathlib.Path, is_mpi: bool) -> str:
     """The program that measures, compiled for this host."""
     if not SOURCE.exists():
@@ -72,21 +81,25 @@ def compiler(is_mpi: bool) -> str:
     return next(iter(lines_of(done.stdout)), word)
 
 
-def command(text: str) -> list[str]:
-    """The words of a command that a person gives."""
+def command(text: str, option: str) -> list[str]:
+    """The words of a command that a person gives by this option."""
     try:
         words = shlex.split(text)
     except ValueError as error:
-        raise Refused(f"--program {text!r}: {error}") from error
+        raise Refused(f"{option} {text!r}: {error}") from error
     if not words:
-        raise Refused("--program is empty: give a command, as './probe' or 'mpirun -n {p} ./probe'")
+        raise Refused(f"{option} is empty: give a command, as {'./probe' if option == PROGRAM else f'mpirun -n {P}'!r}")
     return words
 
 
-def measured(words: Sequence[str], setting: Setting, p: int) -> Samples:
-    """What a command measures on p processes."""
+def measured(words: Sequence[str], setting: Setting, p: int, helping: Sequence[str] = ()) -> Samples:
+    """What a command measures on p processes. A refusal ends with these lines."""
     placed = [it.replace(P, str(p)) for it in words]
-    found = samples.read(called([*placed, *setting.words()], p), placed[0])[-1]
+    try:
+        printed = called([*placed, *setting.words()], p)
+    except Refused as refused:
+        raise Refused(*refused.args, *helping) from refused
+    found = samples.read(printed, placed[0])[-1]
     if found.p != p:
         raise Refused(f"{shlex.join(placed)} ran on {found.p} processes and not on {p}: write {P} in place of their number in the command")
     return found

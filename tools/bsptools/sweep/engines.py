@@ -86,7 +86,8 @@ def array(commands: pathlib.Path, jobs: int) -> pathlib.Path:
         "#SBATCH --output=/dev/null\n"
         "#SBATCH --ntasks=1\n"
         f"exec >{shlex.quote(str(said))}/\"$SLURM_ARRAY_TASK_ID\" 2>&1\n"
-        f"# Task number K makes the lines K + 1, K + {tasks + 1}, .. of the list.\n"
-        f"awk -v task=\"$SLURM_ARRAY_TASK_ID\" 'NR % {tasks} == (task + 1) % {tasks}' {shlex.quote(str(commands))} | sh\n",
+        "# Of N tasks, which --array may make fewer, number K makes the lines K + 1, K + 1 + N, .. of the list.\n"
+        f"awk -v task=\"$SLURM_ARRAY_TASK_ID\" -v tasks=\"${{SLURM_ARRAY_TASK_COUNT:-{tasks}}}\" 'NR % tasks == (task + 1) % tasks'"
+        f" {shlex.quote(str(commands))} | sh\n",
     )
     return script

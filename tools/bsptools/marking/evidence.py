@@ -2,6 +2,7 @@
 
 from __future__ import annotations
 
+import re
 from collections.abc import Iterable
 from dataclasses import asdict, dataclass, field
 from typing import Any, Dict, List, Optional
@@ -15,6 +16,13 @@ WARNS = ": warning: "
 MOST_SHOWN = 120
 # Letters of a line that are kept. A hand-in chooses names in it, and what is looked for in a name of 100,000 letters takes minutes.
 MOST_OF_A_LINE = 2000
+# What a run advises, which are options of bsprun, and what helps in marking, where only the sheet can give a run more.
+ADVICE = (
+    (re.compile(r"raise it with --limit (\d+)$"), r"`instructions = \1` in the sheet raises it"),
+    (re.compile(r"give --stack \w+, of an ELF file to bspcc, or make large arrays static$"), "make large arrays static"),
+    (re.compile(r"--large raises it$"), '`memory = "17M"` in the sheet, or more, raises it'),
+    (re.compile(r"give --memory (\d+) or more$"), r"`memory` in the sheet has to be \1 or more"),
+)
 
 
 @dataclass
@@ -82,3 +90,13 @@ def of_json(known: Dict[str, Any]) -> Evidence:
     """What `as_json` made. What is none raises TypeError or KeyError."""
     whole: Dict[str, Any] = {**known, "runs": [Ended(**it) for it in known["runs"]]}
     return Evidence(**whole)
+
+
+def of_marking(lines: Iterable[str]) -> List[str]:
+    """Lines that say why a run did not end well, with advice that can be followed in marking."""
+    found = []
+    for line in lines:
+        for option, instead in ADVICE:
+            line = option.sub(instead, line)
+        found.append(line)
+    return found

@@ -33,7 +33,7 @@ from ..program import elf
 from ..refusals import Refused, counted
 from . import bounded_run, hidden_warnings
 from .bounded_run import Ran
-from .evidence import BROKEN, LATE, LONG, MOST_SHOWN, WARNS, Ended, Evidence, cut
+from .evidence import BROKEN, LATE, LONG, MOST_SHOWN, WARNS, Ended, Evidence, cut, of_marking
 from .sheet import Bound
 
 MOST_TEXT, MOST_LINES = 1 << 20, 30
@@ -290,7 +290,7 @@ class Trial:
         except Refused as refused:
             if isinstance(refused.__cause__, OSError) and refused.__cause__.errno in LACKS:
                 raise refused.__cause__
-            return Ended(BROKEN, why=[str(it).replace(str(image), self.name) for it in refused.args])
+            return Ended(BROKEN, why=of_marking(str(it).replace(str(image), self.name) for it in refused.args))
         words = [*job.program, "run", *job.settings, "--workers", "1", "--report", "--live"]
         ran = bounded_run.run(words, self.plan.seconds, run.output + MOST_REPORT, is_busy=True)
         if ran.how == bounded_run.ENDED and ran.status == -signal.SIGKILL:
@@ -323,7 +323,7 @@ class Trial:
         if len(output) > most:
             return Ended(LONG, text, errors), None
         if report is None:
-            why = f"the run was ended after {self.plan.seconds} s" if ran.how == bounded_run.LATE else ""
+            why = f"the run was ended after {self.plan.seconds} s; `seconds` in the sheet gives it longer" if ran.how == bounded_run.LATE else ""
             why = why or "".join(ran.said.decode(errors="replace").splitlines()[:1]) or f"the emulator ended with status {ran.status}"
             return Ended(LATE if ran.how == bounded_run.LATE else BROKEN, text, errors, why=[why]), None
         steps = [it.costs for it in report.supersteps]
@@ -335,7 +335,7 @@ class Trial:
     def reasons(self, job: Job, report: Report) -> List[str]:
         """Why a run did not end well."""
         with patient():
-            return Why(job.code, job.replays(), job.options.nodes, job.options.limit).lines(report)
+            return of_marking(Why(job.code, job.replays(), job.options.nodes, job.options.limit).lines(report))
         return []
 
     @property

@@ -10,6 +10,7 @@ import pathlib
 import shlex
 import shutil
 import signal
+import stat
 import subprocess
 import sys
 from typing import Iterator, List, Optional, Sequence
@@ -172,7 +173,7 @@ def file_for_gdb(job: Job, folder: pathlib.Path) -> List[str]:
     """The file from which gdb takes names and lines, if there is one. Of a text one is made."""
     if job.kind != "asm":
         if job.kind == "elf":
-            expect_ordinary_links(job)
+            expect_ordinary_files(job)
         return [str(job.image)] if job.is_for_gdb else []
     content = symbol_file(job.code, job.options.program, job.content.decode(errors="surrogateescape"))
     path = folder / "symbols.elf"
@@ -181,12 +182,21 @@ def file_for_gdb(job: Job, folder: pathlib.Path) -> List[str]:
     return [str(path)] if content else []
 
 
-def expect_ordinary_links(job: Job) -> None:
-    """Refuses a program that names a pipe or a device as having more for debuggers: gdb would wait for it."""
+def expect_ordinary_files(job: Job) -> None:
+    """Refuses a program that names a pipe or a device as having more for debuggers, or a pipe as a source: gdb would wait for it, and not look
+    at Ctrl-C."""
     folder = os.path.dirname(os.path.realpath(job.image))
     named = [os.fsdecode(it) for it in elf.linked(job.content)]
     places = [folder, os.path.join(folder, ".debug"), f"{DEBUG_FILES}{folder}"]
-    files.expect_ordinary([os.path.join(place, name) for name in named for place in places], job.options.program)
+    linked = [os.path.join(place, name) for name in named for place in places]
+    files.expect_ordinary([*linked, *filter(is_pipe, elf.Debug(job.content).sources())], job.options.program)
+
+
+def is_pipe(path: str) -> bool:
+    """Whether a file is a pipe. gdb does not wait for other sources: it reads no more of a device than its size, which is 0."""
+    with contextlib.suppress(OSError, ValueError):
+        return stat.S_ISFIFO(os.stat(path).st_mode)
+    return False
 
 
 def start_gdb(job: Job, folder: pathlib.Path) -> int:

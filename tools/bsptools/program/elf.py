@@ -5,6 +5,7 @@ from __future__ import annotations
 import contextlib
 import importlib
 import io
+import os
 import posixpath
 import re
 import struct
@@ -185,6 +186,16 @@ class Debug:
                 found += pieces(unit, program) if program else ()
         return sorted(found)
 
+    def sources(self) -> list[str]:
+        """The files that its units and their tables of lines name as sources, whether these are here or not."""
+        found: dict[str, None] = {}
+        with contextlib.suppress(Exception), memory_bound.at_most(MOST_MEMORY):
+            for unit in self.info.iter_CUs():
+                # gdb reads the others where one is broken.
+                with contextlib.suppress(Exception):
+                    found.update(dict.fromkeys(sources_of(unit, self.info.line_program_for_CU(unit))))
+        return list(found)
+
     def _lines(self, unit: Any, program: Any, address: int) -> Iterator[tuple[str, str]]:
         number, line = row(program, address)
         for scope in reversed(list(self.scopes(unit.get_top_DIE(), address))):
@@ -254,6 +265,19 @@ def path(unit: Any, program: Any, number: int) -> str:
     file = program.header["file_entry"][number - first]
     folder = program.header["include_directory"][file.dir_index - first] if file.dir_index >= first else b""
     return str(posixpath.join(unit.get_top_DIE().attributes["DW_AT_comp_dir"].value, folder, file.name).decode(errors="surrogateescape"))
+
+
+def sources_of(unit: Any, program: Any) -> Iterator[str]:
+    """The paths of a unit's own source and of all files of its table of lines, if it has one, as gdb opens them."""
+    folder, file = (unit.get_top_DIE().attributes.get(f"DW_AT_{it}") for it in ("comp_dir", "name"))
+    base = folder.value if folder else b""
+    named = [(b"", file.value)] if file else []
+    if program:
+        first = 0 if program.header["version"] >= 5 else 1
+        folders = dict(enumerate(program.header["include_directory"], first))
+        named += [(folders.get(it.dir_index, b""), it.name) for it in program.header["file_entry"]]
+    for below, last in named:
+        yield os.fsdecode(posixpath.join(base, below, last))
 
 
 def name(scope: Any) -> str:

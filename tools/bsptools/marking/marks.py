@@ -359,4 +359,13 @@ def faults_of_solution(evidence: Evidence, sheet: Sheet) -> Dict[str, str]:
     """Why a solution is none."""
     if evidence.untried or evidence.refused or not evidence.is_built:
         return {"": evidence.untried or evidence.refused or compiler_fault(evidence.said)}
-    return {str(run): stop_fault(it, it.errors.splitlines()) for run, it in zip(sheet.runs, evidence.runs) if not it.is_well}
+    return {str(run): fault_of_solution(it, sheet) for run, it in zip(sheet.runs, evidence.runs) if not it.is_well}
+
+
+def fault_of_solution(ended: Ended, sheet: Sheet) -> str:
+    """Why a run of a solution is none. It is the sheet that raises a limit, and no option."""
+    if ended.outcome == LATE:
+        return f"it had not ended after {sheet.seconds} s: is it an endless loop? If not, raise `seconds` in the sheet"
+    if "exhausted" in ended.outcome:
+        return f"{exhausted(ended)} If not, raise the limit by `instructions` in the sheet"
+    return stop_fault(ended, ended.errors.splitlines())

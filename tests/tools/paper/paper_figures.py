@@ -14,7 +14,7 @@ from fractions import Fraction
 from typing import Dict, List, Tuple
 
 from base import Check, Parts
-from checks import SOON, Part, Tool
+from checks import REPO, SOON, Part, Tool
 
 from bsptools.plot import best_regions, sweep_axes, sweep_table, tex_texts
 from bsptools.plot.best_regions import Candidate, Window
@@ -235,6 +235,7 @@ def compiled(check: Check) -> None:
     done = check.tool("bspplot", "table.csv", "--table", "t.tex", "--curves", "c.tex", "--map", "m.tex", *words)
     pgf = check.tool("bspplot", "table.csv", "--curves", "c.pgf", "--map", "m.pgf", *words)
     check.expect("what is written for LaTeX", done.returncode == pgf.returncode == 0, done.stderr + pgf.stderr)
+    leaves_nothing(check)
     packages = r"\usepackage{booktabs}\usepackage{pgfplots}\usepgfplotslibrary{groupplots}\usetikzlibrary{patterns}"
     body = "\n\n".join(f"\\input{{{it}}}" for it in ("t.tex", "c.tex", "m.tex", "c.pgf", "m.pgf"))
     (check.folder / "paper.tex").write_text(f"\\documentclass{{article}}{packages}\n\\begin{{document}}\n{body}\n\\end{{document}}\n")
@@ -242,3 +243,13 @@ def compiled(check: Check) -> None:
     given = {"stdin": subprocess.DEVNULL, "stdout": subprocess.PIPE, "stderr": subprocess.STDOUT, "timeout": SOON}
     latex = subprocess.run(words, cwd=check.folder, check=False, **given)  # type: ignore[call-overload]
     check.expect("a paper", latex.returncode == 0 and (check.folder / "paper.pdf").exists(), latex.stdout[-2000:])
+
+
+def leaves_nothing(check: Check) -> None:
+    """A drawing for TeX leaves no folder of LaTeX where temporary folders are."""
+    temp = check.folder / "temp"
+    temp.mkdir()
+    words = [str(REPO / "bspplot"), "table.csv", "--curves", "c.pgf", "--only", "N=16", "--size", "3.3in"]
+    given = {"env": {**os.environ, "TMPDIR": str(temp)}, "stdin": subprocess.DEVNULL, "capture_output": True, "timeout": SOON}
+    done = subprocess.run(words, cwd=check.folder, check=False, **given)  # type: ignore[call-overload]
+    check.expect("no folder is left", done.returncode == 0 and not list(temp.iterdir()), (done.stderr, list(temp.iterdir())))

@@ -197,8 +197,9 @@ def draw(options: argparse.Namespace) -> None:
         made = make()
         made.origin = plan.origin(name)
         made.save(getattr(options, name))
-    for name in papers:
-        paper_pictures.write(name, plan.rows(), options, getattr(options, name), plan.origin(name))
+    with paper_pictures.folder_of_latex([getattr(options, name) for name in papers]):
+        for name in papers:
+            paper_pictures.write(name, plan.rows(), options, getattr(options, name), plan.origin(name))
     if options.page:
         write_page(plan, options.page, source_sections, annotated_source.style(plan.listing()))
     if options.html:

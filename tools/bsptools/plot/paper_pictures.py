@@ -3,14 +3,17 @@
 from __future__ import annotations
 
 import argparse
+import contextlib
 import io
 import pathlib
 import shutil
+import tempfile
 import warnings
+from collections.abc import Iterator
 
 import matplotlib
 
-from .. import files
+from .. import children, files
 from ..refusals import Refused
 from . import axis_curves, best_map, tex_texts
 from .best_regions import Window
@@ -101,3 +104,18 @@ def save(made: Picture, path: str, origin: str) -> None:
     with matplotlib.rc_context(settings), drawing(), warnings.catch_warnings():
         made.figure.savefig(written, format=PGF[1:])
     files.write(path, "\n".join([*tex_texts.front(origin, r"\usepackage{pgf}"), written.getvalue()]))
+
+
+@contextlib.contextmanager
+def folder_of_latex(paths: list[str]) -> Iterator[None]:
+    """A folder for LaTeX, which measures letters in one of `tempfile`: matplotlib removes it only where Python ends by itself."""
+    if not any(pathlib.Path(it).suffix.lower() == PGF for it in paths):
+        yield
+        return
+    before = tempfile.tempdir
+    with children.folder("bspplot") as folder:
+        tempfile.tempdir = str(folder)
+        try:
+            yield
+        finally:
+            tempfile.tempdir = before

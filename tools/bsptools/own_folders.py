@@ -8,6 +8,7 @@ from __future__ import annotations
 import contextlib
 import os
 import pathlib
+import pwd
 import stat
 from collections.abc import Sequence
 
@@ -16,6 +17,8 @@ from .refusals import Refused
 OTHERS_WRITE, OTHERS_MAY_WRITE = 0o022, "other users may write there"
 # Where programs that the tools start look for settings, among which may be commands: gdb, git, GNU parallel and MPI do.
 SETTINGS = ("HOME", "XDG_CONFIG_HOME", "XDG_DATA_HOME")
+# The home of users that have none, in Debian.
+NOWHERE = "/nonexistent"
 # Who else may look into a folder that is made is up to its user's umask; none but this user may write there.
 MODE, PRIVATE = 0o755, 0o700
 
@@ -77,6 +80,18 @@ def drop_homes_of_others() -> None:
         path = os.environ.get(variable, "")
         if path and not (os.path.isabs(path) and _is_of_user(path)):
             del os.environ[variable]
+
+
+def homed(words: Sequence[str]) -> list[str]:
+    """A command with HOME, for a program that looks for settings elsewhere without it: GNU parallel in /tmp, and Open MPI in the folder in
+    which it is started. They may have commands of another user."""
+    if os.environ.get("HOME"):
+        return list(words)
+    try:
+        home = pwd.getpwuid(os.geteuid()).pw_dir
+    except KeyError:
+        home = ""
+    return ["env", f"HOME={home if os.path.isabs(home) and _is_of_user(home) else NOWHERE}", *words]
 
 
 def _is_of_user(path: str) -> bool:

@@ -6,7 +6,7 @@ import argparse
 import os
 import shlex
 
-from .. import children, files, limits, python_packages
+from .. import children, files, limits, own_folders, python_packages
 from ..options import P, Parser, listed
 from ..probe import machine_lines, probing, samples
 from ..probe.estimates import Estimate, Fit
@@ -130,7 +130,7 @@ def measured(options: argparse.Namespace) -> tuple[list[Samples], str]:
         if options.program:
             words, how = probing.command(options.program, probing.PROGRAM), shlex.quote(options.program)
         else:
-            start = probing.command(options.mpirun, probing.MPIRUN) if options.mpi else []
+            start = own_folders.homed(probing.command(options.mpirun, probing.MPIRUN)) if options.mpi else []
             words, helping = [*start, probing.compiled(folder, options.mpi)], probing.hints(folder, options.mpi)
             how = f"{probing.compiler(options.mpi)} -O2, bsplib/native by {'MPI' if options.mpi else 'processes'}"
             how += f", load {load:.1f}" * is_busy

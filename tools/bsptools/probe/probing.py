@@ -9,7 +9,7 @@ import subprocess
 from collections.abc import Sequence
 from typing import NamedTuple
 
-from .. import children
+from .. import children, own_folders
 from ..emulator import REPO, program
 from ..refusals import Refused, lines_of
 from . import samples
@@ -77,7 +77,7 @@ def compiled(folder: pathlib.Path, is_mpi: bool) -> str:
 def compiler(is_mpi: bool) -> str:
     """The compiler's first line about itself."""
     word = "mpicc" if is_mpi else "cc"
-    done = children.call([word, "--version"], stdout=subprocess.PIPE, stderr=subprocess.STDOUT)
+    done = children.call(own_folders.homed([word, "--version"]), stdout=subprocess.PIPE, stderr=subprocess.STDOUT)
     return next(iter(lines_of(done.stdout)), word)
 
 

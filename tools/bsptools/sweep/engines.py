@@ -38,7 +38,8 @@ class Engine(NamedTuple):
             return ["sbatch", "--wait", *shlex.split(self.sbatch), str(array(commands, self.jobs))]
         # A host that is named more often, or runs that are many for it, are parallel's business; its notice is for papers.
         hosts = ["--sshlogin", ",".join(self.hosts)] if self.hosts else []
-        return ["parallel", "--will-cite", "--jobs", str(self.jobs) if self.jobs else "100%", *hosts, "--arg-file", str(commands)]
+        words = ["parallel", "--will-cite", "--jobs", str(self.jobs) if self.jobs else "100%", *hosts, "--arg-file", str(commands)]
+        return own_folders.homed(words)
 
 
 def line(words: Sequence[str]) -> str:
@@ -53,7 +54,7 @@ def is_gnu_parallel() -> bool:
     """Whether there is GNU parallel: another program of this name is in another package."""
     if shutil.which("parallel") is None:
         return False
-    done = subprocess.run(["parallel", "--version"], stdin=subprocess.DEVNULL, capture_output=True, check=False)
+    done = subprocess.run(own_folders.homed(["parallel", "--version"]), stdin=subprocess.DEVNULL, capture_output=True, check=False)
     return done.stdout.startswith(b"GNU parallel")
 
 

@@ -136,7 +136,8 @@ NOT_OF_PAGES = ("out", "report", "profile", "summary", "apart", "lines", "fold",
 
 def expect_page_alone(asked: argparse.Namespace) -> None:
     """Refuses options of a run beside --page. A program in a page writes no files."""
-    given = next((it for it in NOT_OF_PAGES if getattr(asked, it) and not asked.strict), None)
+    # --strict is also --warn, which the page shows.
+    given = next((it for it in NOT_OF_PAGES if getattr(asked, it) and not (it == "warn" and asked.strict)), None)
     if given is not None:
         raise Refused(f"--page shows the run in the page, so --{given.replace('_', '-')} has nothing to do: leave one of the two out")
     asked.no_files = True

@@ -6,13 +6,10 @@ import argparse
 import builtins
 import keyword
 import os
-import pathlib
 import shlex
 from typing import Any, NoReturn
 
-from bsptools import children
-
-from ._runs import expect_free, made
+from ._runs import Command, expect_free, made
 from ._tools import BspError
 
 HELP = "%%bsp [-n P] [--profile] [--matrix] [--costs] [--g G] [--l L] [--name VARIABLE] [options of bsprun] [-- ARGS]"
@@ -45,11 +42,9 @@ def bsp(line: str, cell: str) -> Any:
     asked, options = reader.parse_known_args(own)
     expect_variable(asked.name)
     expect_free(options)
-    with children.folder("bspemu") as folder:
-        source = folder / "cell.c"
-        source.write_text(cell, encoding="utf-8", errors="surrogatepass")
-        # The headers of a cell lie beside the notebook.
-        run = made([*options, f"-I{os.getcwd()}", str(source), *words[len(own) + 1 :]], str(source), b"", check=True)
+    # The headers of a cell lie beside the notebook.
+    command = Command([*options, f"-I{os.getcwd()}"], "cell.c", words[len(own) + 1 :], b"", cell)
+    run = made(command, check=True)
     show(run, asked)
 
 

@@ -5,10 +5,12 @@ from __future__ import annotations
 import functools
 import os
 import pathlib
-from typing import TYPE_CHECKING, Any, Dict, List, Mapping, Optional, Sequence, Union
+from typing import TYPE_CHECKING, Any, Dict, List, Mapping, NamedTuple, Optional, Sequence, Union
 
-from bsptools import children
-from bsptools.refusals import counted
+from bsptools import children, limits
+from bsptools.files import content_of
+from bsptools.outputs.output_records import writes_files
+from bsptools.refusals import Refused, counted
 
 from . import _figures, _frames
 from ._tools import BspError, Done, Number, Price, call, exact
@@ -67,9 +69,8 @@ def run(
     expect_free(options)
     words = ["-n", str(nodes), *(f"-D{name}={value}" for name, value in (defines or {}).items())]
     words += [it for name in files for it in ("--file", os.fspath(name))]
-    words += [*options, os.fspath(program), *map(str, args)]
     given = input.encode() if isinstance(input, str) else input if isinstance(input, bytes) else pathlib.Path(input).read_bytes()
-    return made(words, os.fspath(program), given, check)
+    return made(Command([*words, *options], os.fspath(program), [str(it) for it in args], given), check)
 
 
 def expect_free(options: Sequence[str]) -> None:
@@ -79,25 +80,54 @@ def expect_free(options: Sequence[str]) -> None:
             raise BspError(f"{it.partition('=')[0]} is not for runs from Python: a Run has the report, the profile and the files of the program")
 
 
-def made(words: List[str], program: str, given: bytes, check: bool) -> Run:
-    """The run of a command line of bsprun, with standard input."""
+class Command(NamedTuple):
+    """A command line of bsprun, which can be run more than once: its options, its program, the program's arguments and standard input, and
+    the text of a program that is no file."""
+
+    options: List[str]
+    program: str
+    args: List[str]
+    given: bytes
+    text: Optional[str] = None
+
+    def words(self, folder: pathlib.Path) -> List[str]:
+        """The words of a run that keeps its text, its input and the files that it writes in a folder."""
+        program, words = self.program, []
+        if self.text is not None:
+            program = os.path.join(folder, program)
+            pathlib.Path(program).write_text(self.text, encoding="utf-8", errors="surrogatepass")
+        if self.given:
+            (folder / "input").write_bytes(self.given)
+            words += ["--input", os.path.join(folder, "input")]
+        if "--no-files" not in self.options and may_write(program):
+            words += ["--out", os.path.join(folder, "out")]
+        return [*words, *self.options, program, *self.args]
+
+
+def may_write(program: str) -> bool:
+    """Whether a program is one of those that write files: bsprun compiles it, or it was built by bspcc."""
+    try:
+        return program.endswith(COMPILED) or writes_files(content_of(program, limits.of(True).program))
+    except Refused:
+        return False  # bsprun says why
+
+
+def made(command: Command, check: bool) -> Run:
+    """The run of a command line."""
     with children.folder("bspemu") as folder:
-        report, profile, out = (os.path.join(folder, name) for name in ("report.json", "profile.csv", "out"))
-        asked = ["--report", report, "--profile", profile, *(["--out", out] if program.endswith(COMPILED) else [])]
-        (folder / "input").write_bytes(given)
-        done = call("bsprun", [*asked, "--input", os.path.join(folder, "input"), *words] if given else [*asked, *words])
-        if not os.path.exists(report):
+        report, profile = folder / "report.json", folder / "profile.csv"
+        done = call("bsprun", ["--report", str(report), "--profile", str(profile), *command.words(folder)])
+        if not report.exists():
             raise BspError(done.told.strip() or f"bsprun ended with status {done.status}, and wrote no report", done.status)
-        found = Run(words, given, done, pathlib.Path(report).read_bytes(), pathlib.Path(profile).read_text(encoding="utf-8"), written(out))
+        found = Run(command, done, report.read_bytes(), profile.read_text(encoding="utf-8"), written(folder / "out"))
     if check and (found.outcome != "ended" or done.status):
         raise BspError(done.told.strip() or found.outcome, done.status, found)
     return found
 
 
-def written(folder: str) -> Dict[str, bytes]:
+def written(folder: pathlib.Path) -> Dict[str, bytes]:
     """The files below a folder by their names in it."""
-    top = pathlib.Path(folder)
-    return {str(it.relative_to(top)): it.read_bytes() for it in sorted(top.rglob("*")) if it.is_file()}
+    return {str(it.relative_to(folder)): it.read_bytes() for it in sorted(folder.rglob("*")) if it.is_file()}
 
 
 class Run:
@@ -114,11 +144,11 @@ class Run:
     status : int
         The exit status of `bsprun`.
     files : dict of str to bytes
-        The files that a C program wrote.
+        The files that the program wrote, if it is a C program or was built by `bspcc`. They are nowhere else.
     """
 
-    def __init__(self, words: List[str], given: bytes, done: Done, report: bytes, profile: str, files: Dict[str, bytes]) -> None:
-        self._words, self._given = words, given
+    def __init__(self, command: Command, done: Done, report: bytes, profile: str, files: Dict[str, bytes]) -> None:
+        self._command = command
         self.status, self.output_bytes, self.told, self.files = done.status, done.output, done.told, files
         self.output = done.output.decode(errors="replace")
         self._report, self._profile = _frames.report_of(report), _frames.profile_of(profile)
@@ -176,9 +206,7 @@ class Run:
         """
         with children.folder("bspemu") as folder:
             path = folder / "lines.json"
-            (folder / "input").write_bytes(self._given)
-            words = ["--input", os.path.join(folder, "input")] if self._given else []
-            done = call("bsprun", ["--lines-as", f"json={path}", *words, *self._words])
+            done = call("bsprun", ["--lines-as", f"json={path}", *self._command.words(folder)])
             if not path.exists():
                 raise BspError(done.told.strip(), done.status, self)
             return _frames.lines(path.read_text(encoding="utf-8"))

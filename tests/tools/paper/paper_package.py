@@ -27,8 +27,9 @@ PAPER = REPO / "examples/paper"
 MOST_LINES = 30
 # What a researcher types. Each line that is printed is compared with what the tools say.
 SCRIPT = """
-import concurrent.futures, fractions, json, sys
+import concurrent.futures, fractions, json, os, sys
 import bspemu
+from bspemu._runs import Command, made
 print(sorted({"pandas", "matplotlib", "IPython"} & set(sys.modules)))
 run = bspemu.run("sieve.c", nodes=4, args=[1000])
 steps = run.supersteps
@@ -41,6 +42,8 @@ for figure in (run.timeline(l=200), run.matrix(), run.costs(g="31/8", l=10)):
     print(type(figure).__module__, "<svg" in figure._repr_svg_())
 wrote = bspemu.run("wrote.c", input="7\\n")
 print(wrote.files, wrote.output)
+built, cell = bspemu.run("wrote.elf", input="7\\n"), made(Command([], "cell.c", [], b"", open("wrote.c").read()), True)
+print(built.files, [int(it.lines["w"].sum()) == it.w for it in (wrote, built, cell)], os.path.exists("a.txt"))
 for bad in (lambda: bspemu.run("none.c"), lambda: bspemu.run("three.c"), lambda: bspemu.sweep("none.c"), lambda: sweep.curves(x="N"),
             lambda: bspemu.sweep("sieve.c", prices=["5"]), lambda: run.cost(g="a"), lambda: bspemu.run("sieve.c", options=["--report=r.csv"])):
     try:
@@ -79,10 +82,11 @@ def imported(check: Check) -> None:
     (check.folder / "wrote.c").write_text(
         "#include <stdio.h>\nint main(void) { int n; scanf(\"%d\", &n); FILE *f = fopen(\"a.txt\", \"w\"); fprintf(f, \"%d\", n); fclose(f); return 0; }\n"
     )
+    check.tool("bspcc", "-g", "-o", "wrote.elf", "wrote.c")
     (check.folder / "typed.py").write_text(SCRIPT)
     done = python(check.folder, "typed.py")
     lines = done.stdout.splitlines()
-    check.expect("what is typed", done.returncode == 0 and len(lines) == 17, done.stdout + done.stderr)
+    check.expect("what is typed", done.returncode == 0 and len(lines) == 18, done.stdout + done.stderr)
     report = check.tool("bsprun", "-n", "4", "--report", "r.json", "--g", "4", "--l", "7", "sieve.c", "1000")
     told = json.loads((check.folder / "r.json").read_text())
     w, h = (sum(it[name] for it in told["supersteps"]) for name in ("w", "h"))
@@ -97,12 +101,13 @@ def imported(check: Check) -> None:
     check.expect("lines", lines[4].split()[:2] == [str(w), "int64"], lines[4])
     check.expect("figures", lines[5:8] == ["matplotlib.figure True"] * 3, lines[5:8])
     check.expect("files and input", lines[8] == "{'a.txt': b'7'} ", lines[8])
+    check.expect("files of an executable, and of lines", lines[9] == "{'a.txt': b'7'} [True, True, True] False", lines[9])
     wanted: List[Tuple[int, str]] = [(1, "none.c"), (2, "ended with status 3"), (1, "none.c"), (1, "the table has no column N")]
     wanted += [(1, "'5' is not a pair of prices"), (1, "'a' is not a price"), (1, "--report is not for runs from Python")]
-    for line, (status, text) in zip(lines[9:16], wanted):
+    for line, (status, text) in zip(lines[10:17], wanted):
         found = json.loads(line)
         check.expect(f"the exception of {text}", found[0] == status and text in found[1] and found[2] == (status == 2), line)
-    check.expect("a sweep by processes", json.loads(lines[16]) == [6, "Int64", "Float64", ["ended"]], lines[16])
+    check.expect("a sweep by processes", json.loads(lines[17]) == [6, "Int64", "Float64", ["ended"]], lines[16])
     # The key that seals results is below the home of whoever made them.
     again = [str(REPO / "bspsweep"), "--again", "sweep.csv.json", "--engine", "plain"]
     home = {**os.environ, "HOME": str(check.folder)}

@@ -56,7 +56,7 @@ def parser() -> Parser:
     add("--no-check", action="store_true", help="do not look for integers that do not fit into the 32-bit long of the nodes, nor for offsets and"
         " sizes that are given in elements; these searches run beside or after the program")  # fmt: skip
     add("--portable", action="store_true", help="run a .c program again under each choice that BSPlib leaves to an implementation")
-    found.add_number("--tries", what="the number of orders", least=1, most=10_000, default=8, metavar="N",
+    found.add_number("--tries", what="the number of orders", least=1, most=10_000, metavar="N",
         help="orders of messages that --portable tries; default 8, or all if no rank gets more than 4 messages in a superstep")  # fmt: skip
     add("--accept", metavar="FILE", help="file with pairs of lines that --portable does not report; each of its lines is FILE:LINE FILE:LINE reason")
     add("--accept-all", metavar="FILE", help="write all pairs that --portable finds to FILE, for --accept")
@@ -117,8 +117,9 @@ def arguments(words: list[str]) -> argparse.Namespace:
         expect_page_alone(asked)
     elif asked.recorded:
         raise Refused("--recorded is for --page: give that too")
-    if asked.accept_all is not None and not asked.portable:
-        raise Refused("--accept-all is for --portable: give that too")
+    alone = next((it for it in ("tries", "accept", "accept_all") if getattr(asked, it) is not None and not asked.portable), None)
+    if alone is not None:
+        raise Refused(f"--{alone.replace('_', '-')} is for --portable: give that too")
     asked.is_here = asked.out is None and not asked.no_files
     asked.out = os.curdir if asked.is_here else asked.out
     # The files that the program looks for and nobody has given, and the digests of those that it gets all the same; and how many nodes it takes,
@@ -131,7 +132,7 @@ def arguments(words: list[str]) -> argparse.Namespace:
 
 
 # What a page does not do, since the program is not run where it is written.
-NOT_OF_PAGES = ("out", "report", "profile", "summary", "apart", "lines", "fold", "lines_as", "warn", "portable", "order", "wall")
+NOT_OF_PAGES = ("out", "report", "profile", "summary", "apart", "lines", "fold", "lines_as", "warn", "portable", "order", "wall", "fill")
 
 
 def expect_page_alone(asked: argparse.Namespace) -> None:

@@ -25,7 +25,7 @@ from ..framed.environment_calls import Tracer
 from ..outputs import contested_bytes
 from ..outputs.output_demux import ERROR, OUTPUT, Marks
 from ..outputs.report import Report, of_run
-from ..portable.portability import TRIES, verdict
+from ..portable.portability import verdict
 from ..portable.portability_findings import told_contested
 from ..portable.trial_builds import Builds
 from ..prepare.job import Job, prepared
@@ -279,7 +279,7 @@ class Trial:
             format="c" if is_text else "elf", bspemu=self.program,
             limit=run.limit, memory=self.plan.memory, stack=None, large=False, float=False, atomic=False, g=run.g, l=run.l,
             rate=limits.RATE, fill=None, out=None, found=[], is_here=False, portable=is_text, sources=[],
-            workers=1, tries=TRIES, accept=None, accept_all=None,
+            workers=1, tries=None, accept=None, accept_all=None,
         )  # fmt: skip
         return prepared(options, place, "bspcheck", is_marked=True)
 

@@ -171,7 +171,7 @@ class Portable:
         """Begins runs with messages in other orders where these are likely tried, before the calls of the run as it is are known: m counts the
         messages of a rank."""
         if self.trials.room and self.ended.messages > MOST_ORDERED and self.has(*QUEUE):
-            self.begin_orders(shuffled_orders(self.subject.options.tries))
+            self.begin_orders(shuffled_orders(self.subject.options.tries or TRIES))
 
     def begin_orders(self, tried: list[Choices]) -> None:
         """Begins runs with messages in these orders, which are the first of those that are tried. Those come last of which sums of variables
@@ -428,7 +428,7 @@ class Portable:
     @functools.lru_cache(maxsize=1)
     def orders(self) -> tuple[list[Choices], str]:
         """The orders of messages that are tried, and their name."""
-        most, tries = self.most_sent(), self.subject.options.tries
+        most, tries = self.most_sent(), self.subject.options.tries or TRIES
         if most <= MOST_ORDERED:
             reversed_ones = [Choices(order=REVERSED)] if most > 1 else []
             numbered = [Choices(order=NUMBERED, seed=it) for it in range(1, math.factorial(most))] if most > 2 else []

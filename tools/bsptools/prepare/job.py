@@ -138,6 +138,8 @@ def prepared(
         if not options.is_here:
             raise Refused(f"{options.program} writes no files: it was not built by this bspcc")
         options.out = None
+    if getattr(options, "fill", None) and not (mark and output_records.PLACE in content):
+        raise Refused(f"{options.program} does not take --fill: it was not built by this bspcc")
     whole = with_clock_rate(run, options.rate)
     if mark or whole != content or not is_text(image):
         # The emulator takes no name that is no text.

@@ -36,6 +36,8 @@ DEBUG_FILES = "/usr/lib/debug"
 PIPE = "--pipe"
 # The bytes that the name of a Unix socket has at most, and a folder for what lasts a while whose name is short.
 MOST_SOCKET, SHORT = 107, "/tmp"
+# The options that start something else than gdb.
+WAYS = ("dialogue", "server", "tcp", "stdio")
 
 
 def arguments(words: Sequence[str]) -> argparse.Namespace:
@@ -73,8 +75,11 @@ def arguments(words: Sequence[str]) -> argparse.Namespace:
     asked = parser.parse_args(words[:end])
     asked.check = asked.check or asked.strict
     asked.gdb_options = list(words[end + 1 :])
-    if asked.dialogue and (asked.server or asked.stdio or asked.tcp is not None or asked.gdb_options):
-        raise Refused("--dialogue does not use gdb: leave out --server, --tcp, --stdio and everything after --")
+    ways = [f"--{it}" for it in WAYS if getattr(asked, it) not in (None, False)]
+    if len(ways) > 1:
+        raise Refused(f"{ways[0]} and {ways[1]} are two ways to debug: leave out one of them")
+    if ways and asked.gdb_options:
+        raise Refused(f"{ways[0]} starts no gdb: leave out everything after --")
     tell([f"bspgdb: {it} after PROGRAM is an argument of the program" for it in parser.own(list(words[:end]), asked.args)])
     return asked
 

@@ -10,7 +10,7 @@ from typing import TYPE_CHECKING, Any, Dict, Iterable, List, Mapping, Optional, 
 
 from bsptools import children, files
 from bsptools.commands import bspplot, bspsweep
-from bsptools.plot import sweep_table
+from bsptools.plot import picture_options, sweep_table
 from bsptools.prices import spelled
 from bsptools.refusals import Refused
 from bsptools.sweep import result_table, table_record
@@ -23,6 +23,8 @@ if TYPE_CHECKING:
     import pandas
 
 Path = Union[str, "os.PathLike[str]"]
+# The name of a table that is drawn.
+SOURCE = "table.csv"
 
 
 def sweep(
@@ -202,7 +204,7 @@ class Sweep:
         if path is None:
             return _figures.of_sweep(figure_of, kind, words, self.table)
         with children.folder("bspemu") as folder:
-            source = folder / "table.csv"
+            source = folder / SOURCE
             source.write_text(self.table, encoding="utf-8", errors="surrogateescape")
             source.with_suffix(".csv.json").write_text(json.dumps(self.record), encoding="utf-8")
             done = call("bspplot", [f"--{kind}={os.fspath(path)}", *words, "--", str(source)])
@@ -215,5 +217,6 @@ def figure_of(kind: str, words: List[str], table: str) -> Any:
     """The picture of a table, as bspplot draws it."""
     from bsptools.plot import paper_pictures
 
-    options = bspplot.arguments([*words, "--", "table"])
+    options = bspplot.arguments([*words, "--", SOURCE])
+    picture_options.expect_used(options.given, [kind], SOURCE)
     return paper_pictures.PICTURES[kind](sweep_table.parse(table), options)

@@ -42,7 +42,8 @@ for figure in (run.timeline(l=200), run.matrix(), run.costs(g="31/8", l=10)):
 wrote = bspemu.run("wrote.c", input="7\\n")
 print(wrote.files, wrote.output)
 for bad in (lambda: bspemu.run("none.c"), lambda: bspemu.run("three.c"), lambda: bspemu.sweep("none.c"), lambda: sweep.curves(x="N"),
-            lambda: bspemu.sweep("sieve.c", prices=["5"]), lambda: run.cost(g="a"), lambda: bspemu.run("sieve.c", options=["--report=r.csv"])):
+            lambda: bspemu.sweep("sieve.c", prices=["5"]), lambda: run.cost(g="a"), lambda: bspemu.run("sieve.c", options=["--report=r.csv"]),
+            lambda: sweep.curves(g="4"), lambda: sweep.map(x="N")):
     try:
         bad()
     except bspemu.BspError as error:
@@ -82,7 +83,7 @@ def imported(check: Check) -> None:
     (check.folder / "typed.py").write_text(SCRIPT)
     done = python(check.folder, "typed.py")
     lines = done.stdout.splitlines()
-    check.expect("what is typed", done.returncode == 0 and len(lines) == 17, done.stdout + done.stderr)
+    check.expect("what is typed", done.returncode == 0 and len(lines) == 19, done.stdout + done.stderr)
     report = check.tool("bsprun", "-n", "4", "--report", "r.json", "--g", "4", "--l", "7", "sieve.c", "1000")
     told = json.loads((check.folder / "r.json").read_text())
     w, h = (sum(it[name] for it in told["supersteps"]) for name in ("w", "h"))
@@ -99,10 +100,11 @@ def imported(check: Check) -> None:
     check.expect("files and input", lines[8] == "{'a.txt': b'7'} ", lines[8])
     wanted: List[Tuple[int, str]] = [(1, "none.c"), (2, "ended with status 3"), (1, "none.c"), (1, "the table has no column N")]
     wanted += [(1, "'5' is not a pair of prices"), (1, "'a' is not a price"), (1, "--report is not for runs from Python")]
-    for line, (status, text) in zip(lines[9:16], wanted):
+    wanted += [(1, "which has its own prices: give --g and --l to bspsweep"), (1, "--x has no effect on --map: it is for --curves and --table")]
+    for line, (status, text) in zip(lines[9:18], wanted):
         found = json.loads(line)
         check.expect(f"the exception of {text}", found[0] == status and text in found[1] and found[2] == (status == 2), line)
-    check.expect("a sweep by processes", json.loads(lines[16]) == [6, "Int64", "Float64", ["ended"]], lines[16])
+    check.expect("a sweep by processes", json.loads(lines[18]) == [6, "Int64", "Float64", ["ended"]], lines[18])
     # The key that seals results is below the home of whoever made them.
     again = [str(REPO / "bspsweep"), "--again", "sweep.csv.json", "--engine", "plain"]
     home = {**os.environ, "HOME": str(check.folder)}

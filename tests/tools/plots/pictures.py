@@ -2,10 +2,12 @@
 
 from __future__ import annotations
 
+import html
 import json
 import math
 import os
 import pathlib
+import re
 import subprocess
 import sys
 from typing import Callable, Dict, List, Tuple
@@ -16,7 +18,7 @@ from checks import COMPILER, Part
 from profiles import RUNS, file_of, profile_of
 
 from bsptools.limits import MOST_POINTS
-from bsptools.plot import superstep_costs, sweep_curves, sweep_table
+from bsptools.plot import picture_options, superstep_costs, sweep_curves, sweep_table
 from bsptools.plot.canvas import EXCHANGE, thousands
 from bsptools.plot.profile import Profile, Reading, parse
 
@@ -39,6 +41,28 @@ TEXTS = {
     "costs": ["work, w", "exchange, g·h", "end, l", "superstep", "ticks"],
     "matrix": ["to rank", "from rank"],
 }
+# Options with pictures that do not use them, and what is said.
+ITS_OWN = "bspplot: table.csv is the table of a sweep, which has its own prices: give --g and --l to bspsweep, or choose prices of the table by"
+UNUSED = {
+    ("--g", "4", "--sweep", "t.svg", "table.csv"): f"{ITS_OWN} --curves and --only g=VALUE",
+    ("--g", "4", "--l", "0", "--html", "t.html", "table.csv"): ITS_OWN,
+    ("--l", "0", "--curves", "t.tex", "table.csv"): f"{ITS_OWN} --curves and --only l=VALUE",
+    ("--g", "1", "--matrix", "t.svg", "one_put.csv"): "bspplot: --g has no effect on --matrix: it is for --timeline, --costs, --source and --html of a run",
+    ("--apart", "printing", "--matrix", "t.svg", "one_put.csv"): "bspplot: --apart has no effect on --matrix: it is for --timeline, --costs,",
+    ("--h", "others", "--map", "t.svg", "table.csv"): "bspplot: --h has no effect on --map: it is for --timeline, --matrix,",
+    ("--supersteps", "0:", "--html", "t.html", "table.csv"): "bspplot: --supersteps has no effect on --html of a sweep: it is for --timeline,",
+    ("--title", "T", "--table", "t.tex", "table.csv"): "bspplot: --title has no effect on --table: it is for --timeline,",
+    ("--setting", "A=1", "--costs", "t.svg", "one_put.csv"): "bspplot: --setting has no effect on --costs: it is for --source and --html\n",
+    ("--rate", "1e9", "--html", "t.html", "one_put.csv"): "bspplot: --rate has no effect on --html of a run: it is for --compare and",
+    ("--only", "N=100", "--sweep", "t.svg", "--compare", "u.svg", "table.csv"): "bspplot: --only has no effect on --sweep and --compare: it is for --curves,",
+    **{
+        (f"--{name}", value, f"--{kind}", "t.tex" if kind == "table" else "t.svg", "table.csv"): f"bspplot: --{name} has no effect on --{kind}: it is for"
+        for name, value, kind in (
+            ("x", "nodes", "map"), ("y", "total", "map"), ("by", "N", "sweep"), ("panels", "N", "compare"), ("log", "none", "table"), ("size", "3in", "table"),
+            ("font", "serif", "table"), ("decimals", "2", "curves"), ("g-range", "1:2", "curves"), ("l-range", "1:2", "table"),
+        )
+    },
+}  # fmt: skip
 # Calls the command line of bspplot for each list of words that it reads: most of the time of one goes into the import of matplotlib.
 COMMAND_LINES = """\
 import contextlib, io, json, sys
@@ -76,7 +100,7 @@ def all_drawn(check: Check, kinds: List[str], source: pathlib.Path, *words: str)
 
 def parts(make: Parts) -> List[Part]:
     """A part for each profile, and what else there is to pictures."""
-    others = [same_bytes, refusals, forms, sweeps, choices, names, many, readings, scales, printing, bands]
+    others = [same_bytes, refusals, unused, forms, sweeps, choices, names, many, readings, scales, printing, bands]
     more = [make.part("counted", counted, tools=COMPILER)]
     return [*more, *(make.part(it.__name__, it) for it in others), *(make.part(f"pictures of {name}", of_profile, name) for name in RUNS)]
 
@@ -441,6 +465,23 @@ def refusals(check: Check) -> None:
     done = subprocess.run(command, capture_output=True, text=True, check=False, cwd=check.folder, env=environment)
     line = "bspplot: python3-matplotlib is missing: apt-get install python3-matplotlib, or run scripts/toolchain\n"
     check.expect("without matplotlib", (done.returncode, done.stderr) == (1, line), done.stderr)
+
+
+def unused(check: Check) -> None:
+    """An option that none of the pictures uses is refused with those that do. Each option is known to be of some pictures, and what is recorded
+    in a picture are the options that it uses."""
+    (check.folder / "table.csv").write_text(SWEEP)
+    (check.folder / "one_put.csv").write_text(file_of("one_put").read_text())
+    for (words, begin), (status, said) in zip(UNUSED.items(), answers(check, list(UNUSED))):
+        is_clear = not any((check.folder / it).exists() for it in ("t.svg", "t.html", "t.tex", "u.svg"))
+        check.expect(f"bspplot {' '.join(words)}", status == 1 and said.startswith(begin) and said.count("\n") == 1 and is_clear, (status, said))
+    found = set(re.findall(r"^  --([a-z-]+)", check.tool("bspplot", "--help").stdout, re.MULTILINE)) - {"help", "version"}
+    named = {*picture_options.USES, *(it.split()[0] for kinds in picture_options.USES.values() for it in kinds)}
+    check.expect("all options are of some pictures", found == {it.replace("_", "-") for it in named}, found.symmetric_difference(named))
+    made = check.tool("bspplot", "--timeline", "t.svg", "--matrix", "u.svg", "--g", "4", "--h", "all", "one_put.csv")
+    texts = [html.unescape((check.folder / it).read_text()) for it in ("t.svg", "u.svg")] if made.returncode == 0 else [made.stderr] * 2
+    recorded = '"settings": {"g": ["4"], "h": ["all"]}' in texts[0] and '"settings": {"h": ["all"]}' in texts[1]
+    check.expect("the options that a picture records", recorded, [it[:400] for it in texts])
 
 
 def printing(check: Check) -> None:

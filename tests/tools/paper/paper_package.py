@@ -27,7 +27,7 @@ PAPER = REPO / "examples/paper"
 MOST_LINES = 30
 # What a researcher types. Each line that is printed is compared with what the tools say.
 SCRIPT = """
-import concurrent.futures, fractions, json, sys
+import concurrent.futures, fractions, json, sys, warnings
 import bspemu
 print(sorted({"pandas", "matplotlib", "IPython"} & set(sys.modules)))
 run = bspemu.run("sieve.c", nodes=4, args=[1000])
@@ -52,6 +52,11 @@ for bad in (lambda: bspemu.run("none.c"), lambda: bspemu.run("three.c"), lambda:
 with concurrent.futures.ProcessPoolExecutor(2) as pool:
     sweep = bspemu.sweep(["sieve.c"], nodes=[1, 2, 4], g=[1, "1/3"], l=[10], args=["100"], executor=pool)
 sweep.save("sweep.csv")
+cut = bspemu.Sweep(sweep.table.replace(",ended\\n", ",rank 0 stopped: aborted\\n", 1), sweep.record)
+with warnings.catch_warnings(record=True) as noted:
+    warnings.simplefilter("always")
+    cut.curves(), cut.curves("c.svg"), cut.tex(), cut.tex("t.tex"), cut.curves(only="nodes=2,4"), sweep.curves()
+print(json.dumps([[it.filename.rpartition("/")[2], str(it.message)] for it in noted if "left out" in str(it.message)]))
 print(json.dumps([len(sweep.frame), str(sweep.frame.dtypes["nodes"]), str(sweep.frame.dtypes["total"]), sweep.frame["outcome"].unique().tolist()]))
 """
 
@@ -83,7 +88,7 @@ def imported(check: Check) -> None:
     (check.folder / "typed.py").write_text(SCRIPT)
     done = python(check.folder, "typed.py")
     lines = done.stdout.splitlines()
-    check.expect("what is typed", done.returncode == 0 and len(lines) == 19, done.stdout + done.stderr)
+    check.expect("what is typed", done.returncode == 0 and len(lines) == 20, done.stdout + done.stderr)
     report = check.tool("bsprun", "-n", "4", "--report", "r.json", "--g", "4", "--l", "7", "sieve.c", "1000")
     told = json.loads((check.folder / "r.json").read_text())
     w, h = (sum(it[name] for it in told["supersteps"]) for name in ("w", "h"))
@@ -104,7 +109,9 @@ def imported(check: Check) -> None:
     for line, (status, text) in zip(lines[9:18], wanted):
         found = json.loads(line)
         check.expect(f"the exception of {text}", found[0] == status and text in found[1] and found[2] == (status == 2), line)
-    check.expect("a sweep by processes", json.loads(lines[18]) == [6, "Int64", "Float64", ["ended"]], lines[18])
+    noted = ["typed.py", "1 of 3 runs did not end well and is left out: sieve.c, 1 node, args 100: rank 0 stopped: aborted"]
+    check.expect("warnings of runs that are left out", json.loads(lines[18]) == [noted] * 4, lines[18])
+    check.expect("a sweep by processes", json.loads(lines[19]) == [6, "Int64", "Float64", ["ended"]], lines[19])
     # The key that seals results is below the home of whoever made them.
     again = [str(REPO / "bspsweep"), "--again", "sweep.csv.json", "--engine", "plain"]
     home = {**os.environ, "HOME": str(check.folder)}

@@ -174,7 +174,8 @@ def source_sections(plan: Plan) -> list[page.Section]:
 
 def write_page(plan: Plan, path: str, made: Callable[[Plan], list[page.Section]], style: str = "") -> None:
     """Writes a page of these sections."""
-    untitled = Plan(argparse.Namespace(**{**vars(plan.options), "title": ""}), plan.source)
+    # A page shows all runs of a sweep.
+    untitled = Plan(argparse.Namespace(**{**vars(plan.options), "title": ""}), plan.source, sweep_table.left_out(plan.source.rows))
     parts = made(untitled)
     drawn = [("drawn", note) for note in untitled.notes]
     plan.notes.extend(it for it in untitled.notes if it not in plan.notes)
@@ -191,13 +192,20 @@ def asked(options: argparse.Namespace, is_sweep: bool) -> list[str]:
     return found
 
 
+def unended(options: argparse.Namespace, rows: list[sweep_table.Row], pictures: list[str]) -> list[str]:
+    """A note of runs that these pictures leave out as they did not end well. It is of those that --only chooses, if all pictures show these."""
+    is_chosen = bool(rows) and set(pictures) <= set(picture_options.COLUMNS)
+    return sweep_table.left_out(sweep_axes.Frame(rows, sweep_axes.of_options(options)).chosen if is_chosen else rows)
+
+
 def draw(options: argparse.Namespace) -> None:
     """Draws all that was asked for."""
     pictures = [getattr(options, name) for name in (*PICTURES, *PAPERS)]
     files.expect_apart([*pictures, options.page, options.html], [options.source])
     source = plot_inputs.read(options.source, options.h)
-    picture_options.expect_used(options.given, asked(options, bool(source.rows)), source.name if source.rows else "")
-    plan = Plan(options, source.without_printing() if options.apart else source)
+    names = asked(options, bool(source.rows))
+    picture_options.expect_used(options.given, names, source.name if source.rows else "")
+    plan = Plan(options, source.without_printing() if options.apart else source, unended(options, source.rows, names))
     drawers = (plan.timeline, plan.matrix, plan.split, plan.dearest, plan.sweep, plan.compare)
     wanted = {name: make for name, make in zip(PICTURES, drawers) if getattr(options, name)}
     papers = [name for name in PAPERS if getattr(options, name)]

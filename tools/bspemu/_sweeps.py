@@ -6,11 +6,12 @@ import concurrent.futures
 import json
 import os
 import pathlib
+import warnings
 from typing import TYPE_CHECKING, Any, Dict, Iterable, List, Mapping, Optional, Sequence, Tuple, Union
 
 from bsptools import children, files
 from bsptools.commands import bspplot, bspsweep
-from bsptools.plot import sweep_table
+from bsptools.plot import picture_options, sweep_table
 from bsptools.prices import spelled
 from bsptools.refusals import Refused
 from bsptools.sweep import result_table, table_record
@@ -23,6 +24,8 @@ if TYPE_CHECKING:
     import pandas
 
 Path = Union[str, "os.PathLike[str]"]
+# The name of a table that is drawn.
+SOURCE = "table.csv"
 
 
 def sweep(
@@ -200,20 +203,32 @@ class Sweep:
     def _draw(self, kind: str, path: Optional[Path], options: Mapping[str, str]) -> Any:
         words = [f"--{name.replace('_', '-')}={value}" for name, value in options.items()]
         if path is None:
-            return _figures.of_sweep(figure_of, kind, words, self.table)
+            notes: List[str] = []
+            figure = _figures.of_sweep(figure_of, kind, words, self.table, notes)
+            warn(notes)
+            return figure
         with children.folder("bspemu") as folder:
-            source = folder / "table.csv"
+            source = folder / SOURCE
             source.write_text(self.table, encoding="utf-8", errors="surrogateescape")
             source.with_suffix(".csv.json").write_text(json.dumps(self.record), encoding="utf-8")
             done = call("bspplot", [f"--{kind}={os.fspath(path)}", *words, "--", str(source)])
         if done.status:
             raise BspError(done.told.strip(), done.status)
+        warn([it[len("bspplot: ") :] for it in done.told.splitlines()])
         return None
 
 
-def figure_of(kind: str, words: List[str], table: str) -> Any:
-    """The picture of a table, as bspplot draws it."""
-    from bsptools.plot import paper_pictures
+def warn(notes: Iterable[str]) -> None:
+    """Tells what a picture leaves out, as of the line that called a method of a sweep."""
+    for it in notes:
+        warnings.warn(it, stacklevel=4)
 
-    options = bspplot.arguments([*words, "--", "table"])
-    return paper_pictures.PICTURES[kind](sweep_table.parse(table), options)
+
+def figure_of(kind: str, words: List[str], table: str, notes: List[str]) -> Any:
+    """The picture of a table, as bspplot draws it; what it leaves out is added to the notes."""
+    from bsptools.plot import drawing, paper_pictures
+
+    options, rows = bspplot.arguments([*words, "--", SOURCE]), sweep_table.parse(table)
+    picture_options.expect_used(options.given, [kind], SOURCE)
+    notes += drawing.unended(options, rows, [kind])
+    return paper_pictures.PICTURES[kind](rows, options)

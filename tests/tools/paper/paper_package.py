@@ -27,7 +27,7 @@ PAPER = REPO / "examples/paper"
 MOST_LINES = 30
 # What a researcher types. Each line that is printed is compared with what the tools say.
 SCRIPT = """
-import concurrent.futures, fractions, json, os, sys
+import concurrent.futures, fractions, json, os, sys, warnings
 import bspemu
 from bspemu._runs import Command, made
 print(sorted({"pandas", "matplotlib", "IPython"} & set(sys.modules)))
@@ -45,7 +45,8 @@ print(wrote.files, wrote.output)
 built, cell = bspemu.run("wrote.elf", input="7\\n"), made(Command([], "cell.c", [], b"", open("wrote.c").read()), True)
 print(built.files, [int(it.lines["w"].sum()) == it.w for it in (wrote, built, cell)], os.path.exists("a.txt"))
 for bad in (lambda: bspemu.run("none.c"), lambda: bspemu.run("three.c"), lambda: bspemu.sweep("none.c"), lambda: sweep.curves(x="N"),
-            lambda: bspemu.sweep("sieve.c", prices=["5"]), lambda: run.cost(g="a"), lambda: bspemu.run("sieve.c", options=["--report=r.csv"])):
+            lambda: bspemu.sweep("sieve.c", prices=["5"]), lambda: run.cost(g="a"), lambda: bspemu.run("sieve.c", options=["--report=r.csv"]),
+            lambda: sweep.curves(g="4"), lambda: sweep.map(x="N")):
     try:
         bad()
     except bspemu.BspError as error:
@@ -54,6 +55,11 @@ for bad in (lambda: bspemu.run("none.c"), lambda: bspemu.run("three.c"), lambda:
 with concurrent.futures.ProcessPoolExecutor(2) as pool:
     sweep = bspemu.sweep(["sieve.c"], nodes=[1, 2, 4], g=[1, "1/3"], l=[10], args=["100"], executor=pool)
 sweep.save("sweep.csv")
+cut = bspemu.Sweep(sweep.table.replace(",ended\\n", ",rank 0 stopped: aborted\\n", 1), sweep.record)
+with warnings.catch_warnings(record=True) as noted:
+    warnings.simplefilter("always")
+    cut.curves(), cut.curves("c.svg"), cut.tex(), cut.tex("t.tex"), cut.curves(only="nodes=2,4"), sweep.curves()
+print(json.dumps([[it.filename.rpartition("/")[2], str(it.message)] for it in noted if "left out" in str(it.message)]))
 print(json.dumps([len(sweep.frame), str(sweep.frame.dtypes["nodes"]), str(sweep.frame.dtypes["total"]), sweep.frame["outcome"].unique().tolist()]))
 """
 
@@ -86,7 +92,7 @@ def imported(check: Check) -> None:
     (check.folder / "typed.py").write_text(SCRIPT)
     done = python(check.folder, "typed.py")
     lines = done.stdout.splitlines()
-    check.expect("what is typed", done.returncode == 0 and len(lines) == 18, done.stdout + done.stderr)
+    check.expect("what is typed", done.returncode == 0 and len(lines) == 21, done.stdout + done.stderr)
     report = check.tool("bsprun", "-n", "4", "--report", "r.json", "--g", "4", "--l", "7", "sieve.c", "1000")
     told = json.loads((check.folder / "r.json").read_text())
     w, h = (sum(it[name] for it in told["supersteps"]) for name in ("w", "h"))
@@ -104,10 +110,13 @@ def imported(check: Check) -> None:
     check.expect("files of an executable, and of lines", lines[9] == "{'a.txt': b'7'} [True, True, True] False", lines[9])
     wanted: List[Tuple[int, str]] = [(1, "none.c"), (2, "ended with status 3"), (1, "none.c"), (1, "the table has no column N")]
     wanted += [(1, "'5' is not a pair of prices"), (1, "'a' is not a price"), (1, "--report is not for runs from Python")]
-    for line, (status, text) in zip(lines[10:17], wanted):
+    wanted += [(1, "which has its own prices: give --g and --l to bspsweep"), (1, "--x has no effect on --map: it is for --curves and --table")]
+    for line, (status, text) in zip(lines[10:19], wanted):
         found = json.loads(line)
         check.expect(f"the exception of {text}", found[0] == status and text in found[1] and found[2] == (status == 2), line)
-    check.expect("a sweep by processes", json.loads(lines[17]) == [6, "Int64", "Float64", ["ended"]], lines[16])
+    noted = ["typed.py", "1 of 3 runs did not end well and is left out: sieve.c, 1 node, args 100: rank 0 stopped: aborted"]
+    check.expect("warnings of runs that are left out", json.loads(lines[19]) == [noted] * 4, lines[19])
+    check.expect("a sweep by processes", json.loads(lines[20]) == [6, "Int64", "Float64", ["ended"]], lines[20])
     # The key that seals results is below the home of whoever made them.
     again = [str(REPO / "bspsweep"), "--again", "sweep.csv.json", "--engine", "plain"]
     home = {**os.environ, "HOME": str(check.folder)}

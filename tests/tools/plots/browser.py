@@ -143,7 +143,8 @@ def page(check: Check, name: str) -> str:
     """A page that bspplot makes."""
     path = check.folder / f"{name}.html"
     kind = "--source" if "lines" in name else "--html"
-    words = [kind, str(path), "--g", "4", "--l", "1000", "--title", f"The page of {name}", "--setting", "program=<b>.c"]
+    prices = [] if name == "table" else ["--g", "4", "--l", "1000"]
+    words = [kind, str(path), *prices, "--title", f"The page of {name}", "--setting", "program=<b>.c"]
     done = check.tool("bspplot", *words, str(source_of(check, name)))
     check.expect(f"page of {name}, made", done.returncode == 0, done.stderr)
     return path.read_text()

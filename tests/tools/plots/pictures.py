@@ -2,10 +2,12 @@
 
 from __future__ import annotations
 
+import html
 import json
 import math
 import os
 import pathlib
+import re
 import subprocess
 import sys
 from typing import Callable, Dict, List, Tuple
@@ -16,7 +18,7 @@ from checks import COMPILER, Part
 from profiles import RUNS, file_of, profile_of
 
 from bsptools.limits import MOST_POINTS
-from bsptools.plot import superstep_costs, sweep_curves, sweep_table
+from bsptools.plot import picture_options, superstep_costs, sweep_curves, sweep_table
 from bsptools.plot.canvas import EXCHANGE, thousands
 from bsptools.plot.profile import Profile, Reading, parse
 
@@ -33,12 +35,35 @@ two.s,1,1,10,,,100,4,950,0,990,ended
 two.s,2,1,10,,,100,4,480,20,540,ended
 two.s,4,1,10,,,100,4,250,30,320,ended
 """
+LEFT_OUT = "1 of 7 runs did not end well and is left out: one.s, 8 nodes, N 100: not run"
 # What is written along each picture, in the order of the SVG: the legend, the axis across, and the one up; up to a colon.
 TEXTS = {
     "timeline": ["work", "waiting for the slowest rank", "exchange, g·h", "end of the superstep, l", "time in ticks", "rank"],
     "costs": ["work, w", "exchange, g·h", "end, l", "superstep", "ticks"],
     "matrix": ["to rank", "from rank"],
 }
+# Options with pictures that do not use them, and what is said.
+ITS_OWN = "bspplot: table.csv is the table of a sweep, which has its own prices: give --g and --l to bspsweep, or choose prices of the table by"
+UNUSED = {
+    ("--g", "4", "--sweep", "t.svg", "table.csv"): f"{ITS_OWN} --curves and --only g=VALUE",
+    ("--g", "4", "--l", "0", "--html", "t.html", "table.csv"): ITS_OWN,
+    ("--l", "0", "--curves", "t.tex", "table.csv"): f"{ITS_OWN} --curves and --only l=VALUE",
+    ("--g", "1", "--matrix", "t.svg", "one_put.csv"): "bspplot: --g has no effect on --matrix: it is for --timeline, --costs, --source and --html of a run",
+    ("--apart", "printing", "--matrix", "t.svg", "one_put.csv"): "bspplot: --apart has no effect on --matrix: it is for --timeline, --costs,",
+    ("--h", "others", "--map", "t.svg", "table.csv"): "bspplot: --h has no effect on --map: it is for --timeline, --matrix,",
+    ("--supersteps", "0:", "--html", "t.html", "table.csv"): "bspplot: --supersteps has no effect on --html of a sweep: it is for --timeline,",
+    ("--title", "T", "--table", "t.tex", "table.csv"): "bspplot: --title has no effect on --table: it is for --timeline,",
+    ("--setting", "A=1", "--costs", "t.svg", "one_put.csv"): "bspplot: --setting has no effect on --costs: it is for --source and --html\n",
+    ("--rate", "1e9", "--html", "t.html", "one_put.csv"): "bspplot: --rate has no effect on --html of a run: it is for --compare and",
+    ("--only", "N=100", "--sweep", "t.svg", "--compare", "u.svg", "table.csv"): "bspplot: --only has no effect on --sweep and --compare: it is for --curves,",
+    **{
+        (f"--{name}", value, f"--{kind}", "t.tex" if kind == "table" else "t.svg", "table.csv"): f"bspplot: --{name} has no effect on --{kind}: it is for"
+        for name, value, kind in (
+            ("x", "nodes", "map"), ("y", "total", "map"), ("by", "N", "sweep"), ("panels", "N", "compare"), ("log", "none", "table"), ("size", "3in", "table"),
+            ("font", "serif", "table"), ("decimals", "2", "curves"), ("g-range", "1:2", "curves"), ("l-range", "1:2", "table"),
+        )
+    },
+}  # fmt: skip
 # Calls the command line of bspplot for each list of words that it reads: most of the time of one goes into the import of matplotlib.
 COMMAND_LINES = """\
 import contextlib, io, json, sys
@@ -57,26 +82,26 @@ json.dump(answers, sys.stdout)
 """
 
 
-def drawn(check: Check, kind: str, source: pathlib.Path, *words: str) -> svg.Drawing:
-    """A picture that bspplot draws of a file."""
-    return all_drawn(check, [kind], source, *words)[0]
+def drawn(check: Check, kind: str, source: pathlib.Path, *words: str, note: str = "") -> svg.Drawing:
+    """A picture that bspplot draws of a file, of which it notes this."""
+    return all_drawn(check, [kind], source, *words, note=note)[0]
 
 
-def all_drawn(check: Check, kinds: List[str], source: pathlib.Path, *words: str) -> List[svg.Drawing]:
-    """Pictures that bspplot draws of a file at once."""
+def all_drawn(check: Check, kinds: List[str], source: pathlib.Path, *words: str, note: str = "") -> List[svg.Drawing]:
+    """Pictures that bspplot draws of a file at once, of which it notes this."""
     paths = [check.folder / f"{kind}.svg" for kind in kinds]
     for kind, path in zip(kinds, paths):
         path.unlink(missing_ok=True)
         words += (f"--{kind}", str(path))
     done = check.tool("bspplot", *words, str(source))
-    if done.returncode != 0 or done.stderr:
+    if done.returncode != 0 or done.stderr != note:
         raise ValueError(f"{' '.join(kinds)} of {source.name}: {done.stderr}")
     return [svg.read(path.read_text()) for path in paths]
 
 
 def parts(make: Parts) -> List[Part]:
     """A part for each profile, and what else there is to pictures."""
-    others = [same_bytes, refusals, forms, sweeps, choices, names, many, readings, scales, printing, bands]
+    others = [same_bytes, refusals, unused, unended, forms, sweeps, choices, names, many, readings, scales, printing, bands]
     more = [make.part("counted", counted, tools=COMPILER)]
     return [*more, *(make.part(it.__name__, it) for it in others), *(make.part(f"pictures of {name}", of_profile, name) for name in RUNS)]
 
@@ -273,7 +298,7 @@ def sweeps(check: Check) -> None:
     source = check.folder / "table.csv"
     source.write_text(SWEEP)
     lines = sweep_table.lines(sweep_table.parse(SWEEP))
-    picture = drawn(check, "sweep", source)
+    picture = drawn(check, "sweep", source, note=f"bspplot: {LEFT_OUT}\n")
     values = {"total": lambda line, it: line.totals[it], "speedup": sweep_table.Line.speedup, "efficiency": sweep_table.Line.efficiency}
     for kind, value in values.items():
         wanted = {f"{kind}-{i}-{it}": value(line, it) for i, line in enumerate(lines) for it in line.totals}
@@ -292,7 +317,7 @@ def sweeps(check: Check) -> None:
     ideal = {"ideal-1": (4.0, one.right, one.top)}
     check.expect("place of the ideal", ends_at(picture, ideal), one)
     check.expect("efficiency on 4 nodes", picture.marks["efficiency-1-4"].text == "two.s, 4 nodes: efficiency 0.773", picture.marks)
-    compared = drawn(check, "compare", source)
+    compared = drawn(check, "compare", source, note=f"bspplot: {LEFT_OUT}\n")
     crossing = [mark.text for mark in compared.named("crossing-").values()]
     check.expect("a crossing", crossing == ["from 4 nodes on two.s costs less, at g 1 and l 10"], crossing)
     check.expect("its text", crossing[0] in compared.texts, compared.texts)
@@ -339,7 +364,8 @@ def names(check: Check) -> None:
     check.expect("long names that differ in the middle", len(set(found)) == 2, found)
     (check.folder / "long.csv").write_text(long)
     done = check.tool("bspplot", "--sweep", "long.png", "--compare", "long.svg", "long.csv")
-    check.expect("pictures of long names", (done.returncode, done.stderr) == (0, ""), done.stderr)
+    is_short = done.stderr.startswith("bspplot: 1 of 7 runs did not end well") and done.stderr.count("\n") == 1 and len(done.stderr) < 200
+    check.expect("pictures of long names", done.returncode == 0 and is_short, done.stderr)
     # Half of a formula of matplotlib, which it would refuse.
     program, machine = "$\\frac{p$", "$\\frac{m$"
     rows = [f"{program},2,4,100,{machine},3,100,10,440,ended", f"{program},2,1,10,,3,100,10,140,ended", "b.s,2,1,10,,1,300,2,312,ended"]
@@ -441,6 +467,45 @@ def refusals(check: Check) -> None:
     done = subprocess.run(command, capture_output=True, text=True, check=False, cwd=check.folder, env=environment)
     line = "bspplot: python3-matplotlib is missing: apt-get install python3-matplotlib, or run scripts/toolchain\n"
     check.expect("without matplotlib", (done.returncode, done.stderr) == (1, line), done.stderr)
+
+
+def unused(check: Check) -> None:
+    """An option that none of the pictures uses is refused with those that do. Each option is known to be of some pictures, and what is recorded
+    in a picture are the options that it uses."""
+    (check.folder / "table.csv").write_text(SWEEP)
+    (check.folder / "one_put.csv").write_text(file_of("one_put").read_text())
+    for (words, begin), (status, said) in zip(UNUSED.items(), answers(check, list(UNUSED))):
+        is_clear = not any((check.folder / it).exists() for it in ("t.svg", "t.html", "t.tex", "u.svg"))
+        check.expect(f"bspplot {' '.join(words)}", status == 1 and said.startswith(begin) and said.count("\n") == 1 and is_clear, (status, said))
+    found = set(re.findall(r"^  --([a-z-]+)", check.tool("bspplot", "--help").stdout, re.MULTILINE)) - {"help", "version"}
+    named = {*picture_options.USES, *(it.split()[0] for kinds in picture_options.USES.values() for it in kinds)}
+    check.expect("all options are of some pictures", found == {it.replace("_", "-") for it in named}, found.symmetric_difference(named))
+    made = check.tool("bspplot", "--timeline", "t.svg", "--matrix", "u.svg", "--g", "4", "--h", "all", "one_put.csv")
+    texts = [html.unescape((check.folder / it).read_text()) for it in ("t.svg", "u.svg")] if made.returncode == 0 else [made.stderr] * 2
+    recorded = '"settings": {"g": ["4"], "h": ["all"]}' in texts[0] and '"settings": {"h": ["all"]}' in texts[1]
+    check.expect("the options that a picture records", recorded, [it[:400] for it in texts])
+
+
+def unended(check: Check) -> None:
+    """A note tells once of runs that pictures leave out, of those that --only chooses if all pictures are of these; a page has it too."""
+    two = SWEEP.replace("two.s,2,1,10,,,100,4,480,20,540,ended", "two.s,2,1,10,,,100,4,480,20,540,rank 1 stopped: aborted")
+    dear = "".join(f"one.s,8,{g},10,,,100,,,,,not run\n" for g in (2, 3))
+    (check.folder / "two.csv").write_text(two + dear)
+    first = "the first one one.s, 8 nodes, N 100: not run; the column outcome has the others"
+    both = f"bspplot: 2 of 7 runs did not end well and are left out, {first}\n"
+    tried = {
+        ("--sweep", "s.svg", "--compare", "c.svg", "--html", "p.html"): (0, both),
+        ("--curves", "c.svg", "--table", "t.tex"): (0, both),
+        ("--map", "m.svg", "--only", "nodes=1,4"): (0, ""),
+        ("--curves", "c.svg", "--only", "nodes=1,2"): (0, "bspplot: 1 of 4 runs did not end well and is left out: two.s, 2 nodes, N 100: rank 1 stopped: aborted\n"),
+        ("--curves", "c.svg", "--only", "nodes=1,4", "--sweep", "s.svg"): (0, both),
+        ("--map", "m.svg", "--only", "nodes=8"): (1, f"bspplot: no run in it ended well, {first}\n"),
+    }
+    for (words, wanted), found in zip(tried.items(), answers(check, [(*it, "two.csv") for it in tried])):
+        check.expect(f"runs that are left out of {' '.join(words)}", found == wanted, found)
+    row = f"<tr><th>drawn</th><td>{both[len('bspplot: ') :].strip()}</td></tr>"
+    page = check.folder / "p.html"
+    check.expect("runs that are left out of a page", page.exists() and page.read_text().count(row) == 1, row)
 
 
 def printing(check: Check) -> None:

@@ -16,6 +16,7 @@ from collections.abc import Iterator
 from .. import children, own_folders, prices, python_packages
 from ..options import Parser, pair, rate
 from ..plot.picture_formats import KINDS, LOGS, MEASURES, PGF, TEX, price_range, size
+from ..plot.picture_options import settle
 from ..plot.profile import Reading
 from ..refusals import printable
 
@@ -109,18 +110,20 @@ def arguments(words: list[str]) -> argparse.Namespace:
     add("--compare", type=target, metavar="FILE", help="totals only, and where one program starts to cost less than another")
     add_papers(parser)
     parser.add_prices(prices.G, prices.L)
+    parser.set_defaults(g=None, l=None)
     add("--apart", choices=["printing"], help="leave the work of output functions out of the costs. Works only if SOURCE has it: a profile of"
         " `bsprun --summary --profile`, or the costs of lines")  # fmt: skip
     add("--rate", type=rate, metavar="COUNT", help="with --compare: instructions a second, to show the totals in seconds too")
-    add("--h", type=reading, default=Reading.OTHERS, metavar="all|others", help="all: h counts what a rank moves to itself, as `--ledger 1` does;"
+    add("--h", type=reading, metavar="all|others", help="all: h counts what a rank moves to itself, as `--ledger 1` does;"
         " others (the default): it does not")  # fmt: skip
     parser.section("all pictures")
-    add("--supersteps", type=span, default=(0, None), metavar="A:B", help="only supersteps A to B; A is one superstep, A: is A and all after it")
+    add("--supersteps", type=span, metavar="A:B", help="only supersteps A to B; A is one superstep, A: is A and all after it")
     add("--title", type=heading, default="", metavar="TEXT", help="title of each picture and of the page")
-    add("--setting", type=lambda text: pair(heading(text), "a setting as NAME=VALUE"), action="append", default=[], metavar="NAME=VALUE", help="with --html: show NAME=VALUE at the top of the page; can be repeated")
+    add("--setting", type=lambda text: pair(heading(text), "a setting as NAME=VALUE"), action="append", default=[], metavar="NAME=VALUE", help="with --html and --source: show NAME=VALUE at the top of the page; can be repeated")
     add("source", metavar="SOURCE", help="the file to draw")
     asked = parser.parse_args(words)
     asked.words = words
+    settle(asked)
     return asked
 
 
@@ -132,8 +135,8 @@ def add_papers(parser: Parser) -> None:
     add("--map", type=paper, metavar="FILE", help="which program costs least for each g and l, and where two cost the same")
     add("--table", type=tex, metavar="FILE.tex", help="what --curves draws, as a LaTeX tabular with booktabs rules")
     parser.section("for --curves, --map and --table")
-    add("--x", default="nodes", metavar="COLUMN", help="with --curves and --table: the x axis: nodes (the default), g, l or a constant")
-    add("--y", default="total", choices=MEASURES, help="with --curves and --table: the y axis; default total")
+    add("--x", metavar="COLUMN", help="with --curves and --table: the x axis: nodes (the default), g, l or a constant")
+    add("--y", choices=MEASURES, help="with --curves and --table: the y axis; default total")
     add("--by", type=names, metavar="COLUMN,..", help="one line, or one program of a map, for each value of these columns; default: all columns that differ")
     add("--panels", type=names, metavar="COLUMN,..", help="one small picture for each value of these columns, side by side")
     add("--only", type=chosen, action="append", default=[], metavar="COLUMN=VALUE,..", help="only rows with these values of a column; can be repeated")

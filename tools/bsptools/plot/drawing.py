@@ -11,8 +11,8 @@ from .. import files
 from ..counts.source_listing import Listing
 from ..prices import spelled
 from ..refusals import Refused, tell
-from . import annotated_source, byte_matrix, cost_split, line_bars, page, paper_pictures, picture_origin, plot_inputs, superstep_costs
-from . import sweep_axes, sweep_curves, sweep_table, timeline
+from . import annotated_source, byte_matrix, cost_split, line_bars, page, paper_pictures, picture_options, picture_origin, plot_inputs
+from . import superstep_costs, sweep_axes, sweep_curves, sweep_table, timeline
 from .canvas import Picture, thousands
 from .profile import Superstep
 from .superstep_costs import Cost, Prices, total
@@ -174,11 +174,28 @@ def source_sections(plan: Plan) -> list[page.Section]:
 
 def write_page(plan: Plan, path: str, made: Callable[[Plan], list[page.Section]], style: str = "") -> None:
     """Writes a page of these sections."""
-    untitled = Plan(argparse.Namespace(**{**vars(plan.options), "title": ""}), plan.source)
+    # A page shows all runs of a sweep.
+    untitled = Plan(argparse.Namespace(**{**vars(plan.options), "title": ""}), plan.source, sweep_table.left_out(plan.source.rows))
     parts = made(untitled)
     drawn = [("drawn", note) for note in untitled.notes]
     plan.notes.extend(it for it in untitled.notes if it not in plan.notes)
     files.write(path, page.written(plan.title or plan.source.name, settings(plan) + drawn, parts, style))
+
+
+def asked(options: argparse.Namespace, is_sweep: bool) -> list[str]:
+    """The pictures and pages that were asked for, by the names that `picture_options` has for them."""
+    pages = {"source": options.page, picture_options.PAGE_OF_SWEEP if is_sweep else picture_options.PAGE_OF_RUN: options.html}
+    found = [name for name in (*PICTURES, *PAPERS) if getattr(options, name)] + [name for name, path in pages.items() if path]
+    if not found:
+        all_names = ", ".join(f"--{name}" for name in ("timeline", "matrix", "costs", "lines", "source", "sweep", "compare", *PAPERS))
+        raise Refused(f"no picture was asked for: give {all_names} or --html")
+    return found
+
+
+def unended(options: argparse.Namespace, rows: list[sweep_table.Row], pictures: list[str]) -> list[str]:
+    """A note of runs that these pictures leave out as they did not end well. It is of those that --only chooses, if all pictures show these."""
+    is_chosen = bool(rows) and set(pictures) <= set(picture_options.COLUMNS)
+    return sweep_table.left_out(sweep_axes.Frame(rows, sweep_axes.of_options(options)).chosen if is_chosen else rows)
 
 
 def draw(options: argparse.Namespace) -> None:
@@ -186,13 +203,12 @@ def draw(options: argparse.Namespace) -> None:
     pictures = [getattr(options, name) for name in (*PICTURES, *PAPERS)]
     files.expect_apart([*pictures, options.page, options.html], [options.source])
     source = plot_inputs.read(options.source, options.h)
-    plan = Plan(options, source.without_printing() if options.apart else source)
+    names = asked(options, bool(source.rows))
+    picture_options.expect_used(options.given, names, source.name if source.rows else "")
+    plan = Plan(options, source.without_printing() if options.apart else source, unended(options, source.rows, names))
     drawers = (plan.timeline, plan.matrix, plan.split, plan.dearest, plan.sweep, plan.compare)
     wanted = {name: make for name, make in zip(PICTURES, drawers) if getattr(options, name)}
     papers = [name for name in PAPERS if getattr(options, name)]
-    if not wanted and not papers and not options.page and not options.html:
-        all_names = ", ".join(f"--{name}" for name in ("timeline", "matrix", "costs", "lines", "source", "sweep", "compare", *PAPERS))
-        raise Refused(f"no picture was asked for: give {all_names} or --html")
     for name, make in wanted.items():
         made = make()
         made.origin = plan.origin(name)

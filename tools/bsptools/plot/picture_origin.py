@@ -9,18 +9,15 @@ from .. import VERSION
 from ..files import named_content
 from ..limits import MOST_TABLE
 from ..refusals import Refused
-
-# Options that a picture rests on, each of which has one value.
-SETTINGS = ("--g", "--l", "--h", "--supersteps", "--title", "--rate", "--x", "--y", "--by", "--panels", "--only", "--log", "--size", "--font", "--decimals",
-            "--g-range", "--l-range")  # fmt: skip
+from .picture_options import used
 
 
-def settings(words: Sequence[str]) -> dict[str, list[str]]:
-    """The settings of a command line, as they were typed."""
+def settings(words: Sequence[str], names: Sequence[str]) -> dict[str, list[str]]:
+    """The values of these options in a command line, as they were typed. Each option has one value."""
     found: dict[str, list[str]] = {}
     for word, value in zip(words, [*words[1:], ""]):
         name, equals, own = word.partition("=")
-        if name in SETTINGS:
+        if name in names:
             found.setdefault(name[2:], []).append(own if equals else value)
     return found
 
@@ -28,7 +25,7 @@ def settings(words: Sequence[str]) -> dict[str, list[str]]:
 def told(picture: str, words: Sequence[str], source: str, name: str, digest: str) -> str:
     """A line of JSON: the tool, the picture and its settings, and the source by its name and digest, with the record of a table if that is
     beside it and is still its record."""
-    found: dict[str, object] = {"drawn by": f"bspplot {VERSION}", "picture": picture, "settings": settings(words)}
+    found: dict[str, object] = {"drawn by": f"bspplot {VERSION}", "picture": picture, "settings": settings(words, used(picture))}
     found["source"] = {"name": name, "sha256": digest}
     return json.dumps({**found, **record_beside(source, digest)})
 

@@ -10,7 +10,7 @@ from typing import NamedTuple
 
 from ..prices import Exact, number, spelled
 from ..refusals import Refused
-from .sweep_table import Row, short_names, telling
+from .sweep_table import Row, none_ended, short_names, telling
 
 PROGRAM, NODES, G, L, MACHINE = "program", "nodes", "g", "l", "machine"
 PRICES = (G, L, MACHINE)
@@ -63,12 +63,12 @@ class Frame:
         self.columns = list(dict.fromkeys([PROGRAM, NODES, *PRICES, *(name for it in rows for name, _ in it.settings)]))
         for name in [axes.x, *(axes.by or ()), *axes.panels, *axes.only]:
             self.expect_column(name)
-        self.rows = [it for it in rows if it.total is not None]
-        if not self.rows:
-            raise Refused("no run in it ended")
-        self.rows = [it for it in self.rows if all(self.cell(it, name) in values for name, values in axes.only.items())]
-        if not self.rows:
+        self.chosen = [it for it in rows if all(self.cell(it, name) in values for name, values in axes.only.items())]
+        if rows and not self.chosen:
             raise Refused(self.none(rows))
+        self.rows = [it for it in self.chosen if it.total is not None]
+        if not self.rows:
+            raise Refused(none_ended(self.chosen))
 
     def none(self, rows: list[Row]) -> str:
         """Why no run has the values that were asked for, and what there is."""

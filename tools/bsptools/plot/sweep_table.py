@@ -11,14 +11,14 @@ from ..files import whole
 from ..limits import MOST_NODES, MOST_POINTS
 from ..outputs.report import OUTCOME
 from ..prices import TOTAL, Exact, of_table, spelled
-from ..refusals import Refused, Unfit, printable, why_unfit
+from ..refusals import Refused, Unfit, counted, printable, why_unfit
 
 # The columns that each table has; between `l` and `supersteps` stand the settings, and from `supersteps` on what came out.
 FIRST = ["program", "nodes", "g", "l"]
 # The one that says whose prices a row has, if it has those of a machine: these differ from one number of nodes to another.
 MACHINE = "machine"
 RESULTS = "supersteps"
-NOT_RUN = "not run"
+NOT_RUN, ENDED = "not run", "ended"
 # More than a sum of w, h or supersteps is.
 MOST_SUM = 1 << 60
 # A label has at most so many letters, of which so many are its end: the font's library fails at a line of 100,000.
@@ -49,7 +49,7 @@ class Sums(NamedTuple):
 
 
 class Row(NamedTuple):
-    """A run: a program with its settings at these prices, its total and its sums; none if it did not end."""
+    """A run: a program with its settings at these prices, its total and its sums, and how it ended; no total and no sums if not well."""
 
     program: str
     nodes: int
@@ -59,11 +59,17 @@ class Row(NamedTuple):
     total: Exact | None
     machine: str = ""
     sums: Sums | None = None
+    outcome: str = ENDED
 
     @property
     def prices(self) -> Prices:
         """The prices of the line that it is in."""
         return Prices(0, 0, self.machine) if self.machine else Prices(self.g, self.l)
+
+    @property
+    def run(self) -> tuple[object, ...]:
+        """What it has in common with rows that have other prices alone."""
+        return self.program, self.nodes, self.settings
 
 
 @dataclass(frozen=True)
@@ -115,7 +121,7 @@ def row_of(row: dict[Any, Any], settings: list[str]) -> Row:
     nodes, g, l = whole(row["nodes"], MOST_NODES), of_table(row["g"]), of_table(row["l"])
     if nodes == 0:
         raise Unfit("0 nodes")
-    first = Row(printable(row["program"]), nodes, g, l, known, None, printable(row.get(MACHINE) or ""))
+    first = Row(printable(row["program"]), nodes, g, l, known, None, printable(row.get(MACHINE) or ""), outcome=row["outcome"])
     if row["outcome"] == NOT_RUN:
         return first
     total, sums = of_table(row["total"], TOTAL), Sums(*(whole(row[name], MOST_SUM) for name in (RESULTS, "w", "h")))
@@ -124,7 +130,34 @@ def row_of(row: dict[Any, Any], settings: list[str]) -> Row:
     if sums.supersteps == 0 or total != sums.total(g, l):
         told = f"{sums.w} + {row['g']} * {sums.h} + {row['l']} * {sums.supersteps}"
         raise Unfit(f"the total {spelled(total)} is not {told}")
-    return first._replace(total=total, sums=sums) if row["outcome"] == "ended" else first
+    return first._replace(total=total, sums=sums) if row["outcome"] == ENDED else first
+
+
+def left_out(rows: list[Row]) -> list[str]:
+    """A line if runs are left out of pictures, which did not end well, with the first of them. Rows that differ in prices alone are of one run."""
+    runs = {it.run for it in rows}
+    unended: dict[tuple[object, ...], Row] = {}
+    for row in rows:
+        if row.total is None:
+            unended.setdefault(row.run, row)
+    if not unended:
+        return []
+    are = "is" if len(unended) == 1 else "are"
+    return [f"{len(unended)} of {counted(len(runs), 'run')} did not end well and {are} left out{first_of(list(unended.values()))}"]
+
+
+def none_ended(rows: list[Row]) -> str:
+    """Why nothing can be drawn of runs none of which ended well."""
+    return f"no run in it ended well{first_of(rows) if rows else ''}"
+
+
+def first_of(unended: list[Row]) -> str:
+    """The first of runs that did not end well, and where the others are."""
+    row, *more = unended
+    settings = "".join(f", {name} {value}" for name, value in row.settings)
+    (name,) = shortened([f"{row.program.rpartition('/')[2]}, {counted(row.nodes, 'node')}{settings}"])
+    told = f"{name}: {row.outcome}"
+    return f", the first one {told}; the column outcome has the others" if more else f": {told}"
 
 
 def lines(rows: list[Row]) -> list[Line]:
@@ -136,7 +169,7 @@ def lines(rows: list[Row]) -> list[Line]:
             key = (names[row.program], row.settings, row.prices)
             found.setdefault(key, Line(*key)).totals[row.nodes] = row.total
     if not found:
-        raise Refused("no run in it ended")
+        raise Refused(none_ended(rows))
     if len(found) > MOST_POINTS:
         raise Refused(f"its runs make {len(found)} lines; the limit of a picture is {MOST_POINTS}: draw a part of the table")
     return [Line(it.program, it.settings, it.prices, dict(sorted(it.totals.items()))) for it in found.values()]

@@ -174,7 +174,7 @@ class Sweep:
         """Has an engine make runs."""
         for place in wanted.values():
             for kind in ("failed", "json"):
-                place.file(kind, copy).unlink(missing_ok=True)
+                files.remove(place.file(kind, copy))
             place.give_ticket()
         progress = Progress(wanted, copy)
         if engine.name == engines.SLURM:
@@ -193,7 +193,7 @@ class Sweep:
         """Takes away what would seal another result of a run that is made: the folder may be given to others."""
         for place in self.places.values():
             if place.found() is not None:
-                place.ticket.unlink(missing_ok=True)
+                files.remove(place.ticket)
 
     def missing(self) -> dict[Run, Place]:
         """The runs that were not made yet."""

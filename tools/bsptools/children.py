@@ -31,6 +31,8 @@ PR_SET_PDEATHSIG = 1
 SI_KERNEL = 0x80
 # For how many seconds a process may go on that was told to end, and after how many a stopped one looks whether it is to go on.
 PATIENCE, POLL = 1, 0.1
+# After how many seconds a process at the terminal is looked at.
+LOOK = 0.25
 # After how many seconds a signal is sent again that was lost.
 SOON = 0.02
 # What ends a tool from outside. Each comes to the same end as Ctrl-C: temporary folders are removed, and children are ended.
@@ -298,10 +300,13 @@ def running(words: Sequence[str], by: int = signal.SIGKILL, **given: Any) -> Ite
             end(child, by)
 
 
-def at_terminal(words: Sequence[str], note: Callable[[], None], tell: Callable[[int], None], env: dict[str, str]) -> int:
-    """Runs a process in this environment that has this one's terminal, and gets Ctrl-C by itself, which is noted here. What ends this one ends it, also if
-    the terminal has stopped it, as one in the background: this one is not stopped so. Ctrl-Z stops both; what else is to stop then is told of
-    SIGTSTP, and of SIGCONT. Answers what it ended with, as Popen has it."""
+def at_terminal(
+    words: Sequence[str], note: Callable[[], None], tell: Callable[[int], None], look: Callable[[int], None], env: dict[str, str]
+) -> int:
+    """Runs a process in this environment that has this one's terminal, and gets Ctrl-C by itself, which is noted here. What ends this one ends
+    it, also if the terminal has stopped it, as one in the background: this one is not stopped so. Ctrl-Z stops both; what else is to stop then
+    is told of SIGTSTP, and of SIGCONT. Each `LOOK` seconds its number is looked at: an exception ends it. Answers what it ended with, as Popen
+    has it."""
     stops = {signal.SIGTSTP} if signal.getsignal(signal.SIGTSTP) != signal.SIG_IGN else set()
     parent, waited = os.getpid(), {signal.SIGCHLD, *_taken, *stops}
     mask = signal.pthread_sigmask(signal.SIG_BLOCK, {signal.SIGTTIN, signal.SIGTTOU, *waited})
@@ -313,8 +318,11 @@ def at_terminal(words: Sequence[str], note: Callable[[], None], tell: Callable[[
     try:
         with subprocess.Popen(list(words), preexec_fn=prepare, env=env) as child:
             while child.poll() is None:
-                got = signal.sigwaitinfo(waited)
-                if got.si_signo in (signal.SIGINT, signal.SIGQUIT):
+                got = signal.sigtimedwait(waited, LOOK)
+                if got is None:
+                    with _killed_by_exceptions(child):
+                        look(child.pid)
+                elif got.si_signo in (signal.SIGINT, signal.SIGQUIT):
                     # That of a terminal comes to both.
                     if got.si_code != SI_KERNEL:
                         child.send_signal(got.si_signo)
@@ -333,6 +341,15 @@ def at_terminal(words: Sequence[str], note: Callable[[], None], tell: Callable[[
             signal.signal(number, signal.SIG_IGN)
             signal.signal(number, signal.SIG_DFL)
         signal.pthread_sigmask(signal.SIG_SETMASK, mask)
+
+
+@contextlib.contextmanager
+def _killed_by_exceptions(child: subprocess.Popen[bytes]) -> Iterator[None]:
+    try:
+        yield
+    except BaseException:
+        child.kill()
+        raise
 
 
 def _end_stopped(child: subprocess.Popen[bytes]) -> None:

@@ -228,7 +228,7 @@ def put(path: str | os.PathLike[str], content: bytes | str, mode: int = OWN_MODE
     """Writes a whole file in a folder of this user's own, which none but this user may write, whatever the umask. What has its name there is
     replaced, and no link is followed."""
     beside = os.path.join(os.path.dirname(path), beside_name())
-    with about(path):
+    with _about_own(path):
         try:
             with open(beside, "xb", opener=lambda name, flags: os.open(name, flags, mode)) as file:
                 file.write(content.encode(errors=LONE) if isinstance(content, str) else content)
@@ -236,6 +236,24 @@ def put(path: str | os.PathLike[str], content: bytes | str, mode: int = OWN_MODE
         finally:
             with contextlib.suppress(OSError):
                 os.unlink(beside)
+
+
+def remove(path: str | os.PathLike[str]) -> None:
+    """Removes a file in a folder of this user's own, if it is there."""
+    with _about_own(path), contextlib.suppress(FileNotFoundError):
+        os.unlink(path)
+
+
+@contextlib.contextmanager
+def _about_own(path: str | os.PathLike[str]) -> Iterator[None]:
+    """As `about`, of a file that a tool keeps: the tool does not remove a folder that has the name of one."""
+    try:
+        with about(path):
+            yield
+    except Refused:
+        if os.path.isdir(path):
+            raise Refused(f"{os.fspath(path)} is a folder, but a tool keeps a file of this name: remove the folder") from None
+        raise
 
 
 def write(path: str | os.PathLike[str], content: str | bytes) -> None:

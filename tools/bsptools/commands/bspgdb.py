@@ -10,13 +10,13 @@ import pathlib
 import shlex
 import shutil
 import signal
-import stat
 import subprocess
 import sys
 from typing import Iterator, List, Optional, Sequence
 
 from .. import children, emulator, files, toolchain
 from ..debug import server
+from ..debug.awaited_pipes import awaited_pipe, is_pipe
 from ..debug.packets import Closed, Connection
 from ..debug.symbol_file import symbol_file
 from ..dialogue import prompt
@@ -189,19 +189,12 @@ def file_for_gdb(job: Job, folder: pathlib.Path) -> List[str]:
 
 def expect_ordinary_files(job: Job) -> None:
     """Refuses a program that names a pipe or a device as having more for debuggers, or a pipe as a source: gdb would wait for it, and not look
-    at Ctrl-C."""
+    at Ctrl-C. It does not wait for other sources: it reads no more of a device than its size, which is 0."""
     folder = os.path.dirname(os.path.realpath(job.image))
     named = [os.fsdecode(it) for it in elf.linked(job.content)]
     places = [folder, os.path.join(folder, ".debug"), f"{DEBUG_FILES}{folder}"]
     linked = [os.path.join(place, name) for name in named for place in places]
     files.expect_ordinary([*linked, *filter(is_pipe, elf.Debug(job.content).sources())], job.options.program)
-
-
-def is_pipe(path: str) -> bool:
-    """Whether a file is a pipe. gdb does not wait for other sources: it reads no more of a device than its size, which is 0."""
-    with contextlib.suppress(OSError, ValueError):
-        return stat.S_ISFIFO(os.stat(path).st_mode)
-    return False
 
 
 def start_gdb(job: Job, folder: pathlib.Path) -> int:
@@ -218,7 +211,13 @@ def start_gdb(job: Job, folder: pathlib.Path) -> int:
         with contextlib.suppress(OSError), typed.open("ab") as file:
             file.write(b"C")
 
+    def look(gdb: int) -> None:
+        pipe = awaited_pipe(gdb)
+        if pipe:
+            told = f"gdb waited for the pipe {pipe}, and was ended: {job.options.program} or a file that came with it names this pipe"
+            raise Refused(f"{told}; remove the pipe, and start bspgdb again")
+
     # gdb has a Python in it, which takes what is set for others, and would not start with what is wrong for it.
     environment = {name: it for name, it in os.environ.items() if not name.startswith("PYTHON")}
-    status = children.at_terminal(words, note, functools.partial(tell_bridge, typed), environment)
+    status = children.at_terminal(words, note, functools.partial(tell_bridge, typed), look, environment)
     return status if status >= 0 else BY_SIGNAL - status

@@ -15,6 +15,8 @@ from ..probe.samples import Samples
 from ..refusals import Refused, counted, put, show, tell
 
 MOST_WORD, MOST_H, MOST_ROUNDS, MOST_MILLISECONDS = 1 << 20, 1 << 16, 1000, 1000
+# How a program with MPI is started, and the options of a measurement.
+MPIRUN, MEASURING = "mpirun -n {p}", ("word", "most", "rounds", "milliseconds")
 MILLION, NANO, MICRO = 1e6, 1e-9, 1e-6
 # The load for each processor from which others take a part of what is measured, and what to do then.
 BUSY = 0.3
@@ -39,7 +41,7 @@ def parser() -> Parser:
     found.section("processes")
     add("-n", "--nodes", type=listed(P), metavar="LIST", help="numbers of processes, as 1,2,4 or 1:4; default: 1, 2, 4 and so on up to the processors")
     add("--mpi", action="store_true", help="use MPI, with the hosts that mpirun has, instead of processes of this host")
-    add("--mpirun", default="mpirun -n {p}", metavar="COMMAND", help="how to start a program with MPI; default 'mpirun -n {p}', where {p} is the number of processes")
+    add("--mpirun", metavar="COMMAND", help="how to start a program with MPI; default 'mpirun -n {p}', where {p} is the number of processes")
     add("--program", metavar="COMMAND", help="run this program, which you built from bsplib/native/probe.c with any BSPlib; {p} is the number of processes")
     add("--samples", action="append", default=[], metavar="FILE", help="measure nothing, and use what such a program has printed; can be repeated")
     found.section("measurements")
@@ -66,11 +68,7 @@ def name(text: str) -> str:
 
 def main(words: list[str]) -> int:
     """Measures, and tells what was found."""
-    options = parser().parse_args(words)
-    if options.samples and (options.program or options.mpi or options.nodes):
-        raise Refused("--samples reads earlier measurements: leave out --program, --mpi and -n")
-    if options.program and options.mpi:
-        raise Refused("--program is a complete command: leave out --mpi")
+    options = parsed(words)
     files.expect_apart([options.output], options.samples)
     files.expect_writable([options.output])
     machine_lines.expect_table(options.output)
@@ -89,6 +87,22 @@ def main(words: list[str]) -> int:
     else:
         put("".join(f"{it}\n" for it in lines))
     return 0
+
+
+def parsed(words: list[str]) -> argparse.Namespace:
+    """What a command line asks for. Options that would change nothing are refused."""
+    reader = parser()
+    options = reader.parse_args(words)
+    if options.samples and (options.program or options.mpi or options.nodes):
+        raise Refused("--samples reads earlier measurements: leave out --program, --mpi and -n")
+    useless = [f"--{it}" for it in MEASURING if options.samples and getattr(options, it) != reader.get_default(it)]
+    if useless:
+        raise Refused(f"--samples reads earlier measurements: leave out {' and '.join(useless)}")
+    if options.program and options.mpi:
+        raise Refused("--program is a complete command: leave out --mpi")
+    if options.mpirun is not None and not options.mpi:
+        raise Refused("--mpirun is for MPI: add --mpi, or leave it out")
+    return options
 
 
 def in_unit(found: Fit, factor: float) -> Fit:
@@ -130,7 +144,7 @@ def measured(options: argparse.Namespace) -> tuple[list[Samples], str]:
         if options.program:
             words, how = probing.command(options.program, probing.PROGRAM), shlex.quote(options.program)
         else:
-            start = own_folders.homed(probing.command(options.mpirun, probing.MPIRUN)) if options.mpi else []
+            start = own_folders.homed(probing.command(options.mpirun or MPIRUN, probing.MPIRUN)) if options.mpi else []
             words, helping = [*start, probing.compiled(folder, options.mpi)], probing.hints(folder, options.mpi)
             how = f"{probing.compiler(options.mpi)} -O2, bsplib/native by {'MPI' if options.mpi else 'processes'}"
             how += f", load {load:.1f}" * is_busy

@@ -174,7 +174,7 @@ class Sweep:
         """Has an engine make runs."""
         for place in wanted.values():
             for kind in ("failed", "json"):
-                place.file(kind, copy).unlink(missing_ok=True)
+                files.remove(place.file(kind, copy))
             place.give_ticket()
         progress = Progress(wanted, copy)
         if engine.name == engines.SLURM:
@@ -193,7 +193,7 @@ class Sweep:
         """Takes away what would seal another result of a run that is made: the folder may be given to others."""
         for place in self.places.values():
             if place.found() is not None:
-                place.ticket.unlink(missing_ok=True)
+                files.remove(place.ticket)
 
     def missing(self) -> dict[Run, Place]:
         """The runs that were not made yet."""
@@ -254,7 +254,7 @@ def script(sweep: Sweep, words: list[str]) -> int:
         folder = result_folders.new(sweep.folder, "lists")
         path = engines.array(sweep.commands(folder, missing, MAIN), sweep.options.jobs)
         again = engines.line([emulator.program("bspsweep"), *(it for it in words if it != "--script")])
-        print(f"start it:   {engines.line(['sbatch', str(path)])}\ncollect it: {again}")
+        print(f"start it:   {engines.line(['sbatch', *shlex.split(sweep.options.sbatch), str(path)])}\ncollect it: {again}")
     else:
         print("all runs are made: the same command without --script gives the table")
     return 0
@@ -325,6 +325,16 @@ def again(asked: argparse.Namespace) -> int:
     return sweep(options, words, before)
 
 
+def expect_used(options: argparse.Namespace) -> None:
+    """Refuses options that would change nothing."""
+    if options.sbatch and options.engine != engines.SLURM:
+        raise Refused("--sbatch is for Slurm: add --engine slurm, or leave it out")
+    if options.hosts and options.script:
+        raise Refused("--hosts is for GNU parallel, and --script writes a script for Slurm: leave one of them out")
+    if options.interpolate and not options.machine:
+        raise Refused("--interpolate is for the prices of --machine: add --machine, or leave it out")
+
+
 def expect_outputs(options: argparse.Namespace, inputs: list[str]) -> None:
     """Refuses a table, or a record of it, that would be written over something else, or cannot be written."""
     outputs = [options.output, table_record.beside(options.output)]
@@ -339,6 +349,7 @@ def main(words: list[str]) -> int:
     if words[:1] == ["--make"] and len(words) == 3:
         return sweep_job.make(words[1], words[2])
     options = arguments(words)
+    expect_used(options)
     if not files.is_here():
         raise Refused(f"{files.GONE}, and the descriptions of runs name it: start bspsweep in another folder")
     if options.again is not None:

@@ -8,6 +8,8 @@ set breakpoint always-inserted on
 # Each rank has a memory of its own, so what was read of one says nothing of another.
 set stack-cache off
 set code-cache off
+# A node has no operating system. gdb would take a program for one of Linux that says so of itself, and open the loader that it names.
+set osabi none
 # The emulator may be busy for longer than gdb waits by itself.
 set remotetimeout 3600
 # An editor's gdb reads -exec-interrupt while the program runs.

@@ -21,6 +21,7 @@ ADVICE = (
     (re.compile(r"raise it with --limit (\d+)$"), r"`instructions = \1` in the sheet raises it"),
     (re.compile(r"give --stack \w+, of an ELF file to bspcc, or make large arrays static$"), "make large arrays static"),
     (re.compile(r"--large raises it$"), '`memory = "17M"` in the sheet, or more, raises it'),
+    (re.compile(r"; with --large they may have \d+$"), ": the sheet has to give less"),
     (re.compile(r"give --memory (\d+) or more$"), r"`memory` in the sheet has to be \1 or more"),
 )
 

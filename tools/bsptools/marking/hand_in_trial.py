@@ -23,7 +23,9 @@ from ..diagnosis.superstep_ends import END, ends
 from ..files import content_of
 from ..framed.environment_calls import Tracer
 from ..outputs import contested_bytes
+from ..outputs.library_notes import ABSENT, note_of
 from ..outputs.output_demux import ERROR, OUTPUT, Marks
+from ..outputs.output_records import NOTE, record_of
 from ..outputs.report import Report, of_run
 from ..portable.portability import verdict
 from ..portable.portability_findings import told_contested
@@ -33,13 +35,15 @@ from ..program import elf
 from ..refusals import Refused, counted
 from . import bounded_run, hidden_warnings
 from .bounded_run import Ran
-from .evidence import BROKEN, LATE, LONG, MOST_SHOWN, WARNS, Ended, Evidence, cut, of_marking
+from .evidence import BROKEN, LATE, LONG, MOST_SHOWN, WARNS, WELL, Ended, Evidence, cut, of_marking
 from .sheet import Bound
 
 MOST_TEXT, MOST_LINES = 1 << 20, 30
 COMPILER_SECONDS, MOST_COMPILED, MOST_LATE = 30, 1 << 20, 2
 # Supersteps of which it is looked where they end, and places that are told.
 MOST_ENDS, MOST_PLACES = 500, 4
+# Files of those that a run did not find that are told.
+MOST_ABSENT = 3
 # Of a report behind the output.
 MOST_REPORT = 1 << 26
 # For how long it is looked why a run did not end well, or what it costs by line. What is judged has longer, also where a sheet gives runs much
@@ -301,7 +305,7 @@ class Trial:
         if report is None:
             return ended
         if not ended.is_well:
-            ended.why = self.reasons(job, report)
+            ended.why = [*self.reasons(job, report), *ended.why]
             return ended
         if self.plan.races and run.nodes > 1:
             ended.race = self.race(job, report)
@@ -330,7 +334,8 @@ class Trial:
         costs = {name: sum(it[name] for it in steps) for name in steps[0]}
         costs.update(supersteps=len(steps), cost=report.total, most_w=max(it["w"] for it in steps), most_h=max(it["h"] for it in steps))
         shown = [[it["w"], it["h"], it.get("m", 0)] for it in steps[:MOST_SHOWN]]
-        return Ended(report.outcome, text, errors, costs, shown), report
+        absent = absent_files(pieces) if report.outcome != WELL else []
+        return Ended(report.outcome, text, errors, costs, shown, absent), report
 
     def reasons(self, job: Job, report: Report) -> List[str]:
         """Why a run did not end well."""
@@ -404,6 +409,14 @@ class Trial:
             self.found.is_portable = found is not None and not found.found
             return
         self.lacks("the trial of what BSPlib leaves open")
+
+
+def absent_files(pieces: Sequence[Tuple[int, bytes]]) -> List[str]:
+    """Lines about the files for which a run looked in vain: it may have gone on with the NULL that fopen returns then."""
+    records = [record_of(kind, content) for kind, content in pieces if kind == NOTE]
+    notes = [note_of(it) for it in records if it is not None]
+    names = dict.fromkeys(it.text for it in notes if it is not None and it.what == ABSENT)
+    return [f"{it} was not found: the sheet gives no file of this name" for it in list(names)[:MOST_ABSENT]]
 
 
 def names_of(part: pathlib.Path) -> Set[str]:

@@ -9,7 +9,7 @@ from typing import Dict, List, Optional, Tuple
 
 from ..files import named_content
 from ..limits import MOST_INPUT
-from ..refusals import Refused
+from ..refusals import Refused, tell
 from . import bounded_run
 from .sheet import Case, Generator, Numbers, Run, Sheet
 
@@ -61,8 +61,11 @@ class Inputs:
         seed = asked.seed if self.seed is None else self.seed
         ran = bounded_run.run([*words_of(path), str(seed), str(nodes)], SECONDS, MOST_INPUT, name=asked.program)
         if ran.how != bounded_run.ENDED or ran.status != 0:
-            how = f"ended with status {ran.status}" if ran.how == bounded_run.ENDED else f"did not end in {SECONDS} s, or wrote too much"
+            late, long = f"did not end in {SECONDS} s", f"printed more than {MOST_INPUT} bytes, the limit for an input"
+            how = {bounded_run.LATE: late, bounded_run.LONG: long}.get(ran.how, f"ended with status {ran.status}")
             raise Refused(f"{path} {seed} {nodes} {how}", *ran.said.decode(errors="replace").splitlines()[-5:])
+        if not ran.output:
+            tell([f"bspcheck: {path} {seed} {nodes} printed nothing, so this input is empty"])
         return ran.output
 
 

@@ -285,8 +285,11 @@ class Reader:
     def file(self, path: Path, value: Any) -> str:
         """The name of a file that is there."""
         name = self.text(path, value)
-        if name and not os.path.lexists(os.path.join(os.path.dirname(self.path), name)):
+        place = os.path.join(os.path.dirname(self.path), name)
+        if name and not os.path.lexists(place):
             self.note(path, f"{name}: {os.strerror(errno.ENOENT)}")
+        elif name and os.path.isdir(place):
+            self.note(path, f"{name} is a folder: give the name of a file")
         return name
 
     def several(self, path: Path, value: Any) -> Tuple[str, ...]:

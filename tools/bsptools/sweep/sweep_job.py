@@ -13,7 +13,7 @@ from collections.abc import Mapping
 from typing import Any
 
 from .. import children, emulator
-from ..files import believed_content, content_of, put
+from ..files import believed_content, content_of, put, remove
 from ..limits import MOST_PROGRAM, MOST_TABLE
 from ..options import FLAGS
 from ..outputs.output_records import writes_files
@@ -49,7 +49,7 @@ def make(folder: str, copy: str) -> int:
         said = done.stderr.decode(errors="replace").strip() or f"bsprun has ended with status {done.returncode}, and no report"
         put(place.file("failed", copy), other or said + "\n")
         return REFUSED
-    place.file("failed", copy).unlink(missing_ok=True)
+    remove(place.file("failed", copy))
     place.keep({**record(content, done), "sought": sought}, copy)
     return 0
 

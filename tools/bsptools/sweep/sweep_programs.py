@@ -55,6 +55,8 @@ def programs(options: argparse.Namespace, folder: pathlib.Path) -> list[Program]
             found += [compiled(name, choice, options, folder) for choice in choices]
         else:
             found.append(Program(name, (), pathlib.Path(name).resolve(), kind))
+    if options.stack and not any(it.is_compiled for it in found):
+        raise Refused(f"--stack is for programs in C, and {found[0].name} is compiled already: give --stack to bspcc")
     expect_same_texts(found)
     lines = told(found)
     if all(it.why for it in found):

@@ -35,6 +35,7 @@ MISFITS: Dict[Tuple[str, ...], str] = {
     ("--curves", "c.svg", "--panels", "nodes"): "nodes is on the axis, so it separates neither lines nor panels",
     ("--curves", "c.svg", "--only", "N=5"): "no run in it has N 5; there is N 1, 16",
     ("--curves", "c.svg", "--only", "machine=cray"): "no run in it has machine cray; there is machine none, t3e",
+    ("--curves", "c.svg", "--only", "N=1", "--only", "N=5,16"): "--only is given twice for N: give all values at once, as --only N=1,5,16",
     ("--curves", "c.svg", "--x", "w"): "w is what runs cost, and not a setting: only --y can show it",
     ("--curves", "c.svg", "--size", "1in"): "a width of 1in has no room for a name of",
     ("--table", "c.tex", "--decimals", "10"): "the number of decimals",

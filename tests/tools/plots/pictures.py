@@ -503,6 +503,10 @@ def unended(check: Check) -> None:
     }
     for (words, wanted), found in zip(tried.items(), answers(check, [(*it, "two.csv") for it in tried])):
         check.expect(f"runs that are left out of {' '.join(words)}", found == wanted, found)
+    (check.folder / "odd.csv").write_text(SWEEP.replace("530,ended", "530,rank 0 stopped: \x1b[31m" + 999 * "x"))
+    [(status, said)] = answers(check, [("--sweep", "s.svg", "--html", "odd.html", "odd.csv")])
+    right = status == 0 and len(said) < 200 and "\x1b" not in said + (check.folder / "odd.html").read_text()
+    check.expect("an outcome that is a command to a terminal", right, (status, said))
     row = f"<tr><th>drawn</th><td>{both[len('bspplot: ') :].strip()}</td></tr>"
     page = check.folder / "p.html"
     check.expect("runs that are left out of a page", page.exists() and page.read_text().count(row) == 1, row)

@@ -117,8 +117,8 @@ def arguments(words: list[str]) -> argparse.Namespace:
     add("--h", type=reading, metavar="all|others", help="all: h counts what a rank moves to itself, as `--ledger 1` does;"
         " others (the default): it does not")  # fmt: skip
     parser.section("all pictures")
-    add("--supersteps", type=span, metavar="A:B", help="only supersteps A to B; A is one superstep, A: is A and all after it")
-    add("--title", type=heading, default="", metavar="TEXT", help="title of each picture and of the page")
+    add("--supersteps", type=span, metavar="A:B", help="of a run: only supersteps A to B; A is one superstep, A: is A and all after it")
+    add("--title", type=heading, default="", metavar="TEXT", help="title of each picture and page")
     add("--setting", type=lambda text: pair(heading(text), "a setting as NAME=VALUE"), action="append", default=[], metavar="NAME=VALUE", help="with --html and --source: show NAME=VALUE at the top of the page; can be repeated")
     add("source", metavar="SOURCE", help="the file to draw")
     asked = parser.parse_args(words)
@@ -139,7 +139,7 @@ def add_papers(parser: Parser) -> None:
     add("--y", choices=MEASURES, help="with --curves and --table: the y axis; default total")
     add("--by", type=names, metavar="COLUMN,..", help="one line, or one program of a map, for each value of these columns; default: all columns that differ")
     add("--panels", type=names, metavar="COLUMN,..", help="one small picture for each value of these columns, side by side")
-    add("--only", type=chosen, action="append", default=[], metavar="COLUMN=VALUE,..", help="only rows with these values of a column; can be repeated")
+    add("--only", type=chosen, action="append", default=[], metavar="COLUMN=VALUE,..", help="only rows with these values of a column; can be repeated for other columns")
     add("--log", choices=LOGS, help="logarithmic axes; default: those with a wide range of values")
     add("--size", type=size, metavar="WIDTH[xHEIGHT]", help="with --curves and --map: size of the picture, as 3.3in or 84mmx60mm")
     add("--font", metavar="NAME", help="with --curves and --map: serif, sans-serif, monospace, or any installed font")

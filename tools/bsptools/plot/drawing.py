@@ -193,7 +193,7 @@ def asked(options: argparse.Namespace, is_sweep: bool) -> list[str]:
 
 
 def unended(options: argparse.Namespace, rows: list[sweep_table.Row], pictures: list[str]) -> list[str]:
-    """A note of runs that these pictures leave out as they did not end well. It is of those that --only chooses, if all pictures show these."""
+    """A note of runs that these pictures leave out as they did not end well: of those that --only chooses, if all pictures show these."""
     is_chosen = bool(rows) and set(pictures) <= set(picture_options.COLUMNS)
     return sweep_table.left_out(sweep_axes.Frame(rows, sweep_axes.of_options(options)).chosen if is_chosen else rows)
 

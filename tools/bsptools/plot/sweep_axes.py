@@ -51,7 +51,12 @@ class Axes:
 
 def of_options(options: argparse.Namespace) -> Axes:
     """The axes that a command line asks for."""
-    return Axes(options.x, options.y, options.by, options.panels or (), dict(options.only))
+    only: dict[str, list[str]] = {}
+    for name, values in options.only:
+        if name in only:
+            raise Refused(f"--only is given twice for {name}: give all values at once, as --only {name}={','.join([*only[name], *values])}")
+        only[name] = values
+    return Axes(options.x, options.y, options.by, options.panels or (), only)
 
 
 class Frame:

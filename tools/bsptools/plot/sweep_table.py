@@ -121,7 +121,7 @@ def row_of(row: dict[Any, Any], settings: list[str]) -> Row:
     nodes, g, l = whole(row["nodes"], MOST_NODES), of_table(row["g"]), of_table(row["l"])
     if nodes == 0:
         raise Unfit("0 nodes")
-    first = Row(printable(row["program"]), nodes, g, l, known, None, printable(row.get(MACHINE) or ""), outcome=row["outcome"])
+    first = Row(printable(row["program"]), nodes, g, l, known, None, printable(row.get(MACHINE) or ""), outcome=printable(row["outcome"]))
     if row["outcome"] == NOT_RUN:
         return first
     total, sums = of_table(row["total"], TOTAL), Sums(*(whole(row[name], MOST_SUM) for name in (RESULTS, "w", "h")))
@@ -134,7 +134,7 @@ def row_of(row: dict[Any, Any], settings: list[str]) -> Row:
 
 
 def left_out(rows: list[Row]) -> list[str]:
-    """A line if runs are left out of pictures, which did not end well, with the first of them. Rows that differ in prices alone are of one run."""
+    """A line with the number of runs that pictures leave out, as they did not end well, and the first. Rows of one run differ in prices alone."""
     runs = {it.run for it in rows}
     unended: dict[tuple[object, ...], Row] = {}
     for row in rows:
@@ -155,8 +155,7 @@ def first_of(unended: list[Row]) -> str:
     """The first of runs that did not end well, and where the others are."""
     row, *more = unended
     settings = "".join(f", {name} {value}" for name, value in row.settings)
-    (name,) = shortened([f"{row.program.rpartition('/')[2]}, {counted(row.nodes, 'node')}{settings}"])
-    told = f"{name}: {row.outcome}"
+    told = ": ".join(shortened([f"{row.program.rpartition('/')[2]}, {counted(row.nodes, 'node')}{settings}", row.outcome]))
     return f", the first one {told}; the column outcome has the others" if more else f": {told}"
 
 

@@ -368,9 +368,9 @@ def place() -> str:
     could put a folder of theirs in its place, with commands in it."""
     found = tempfile.gettempdir()
     chosen = found if is_text(found) else PLACES[0]
-    if own_folders.is_held(chosen):
+    if own_folders.is_held_throughout(chosen):
         return chosen
-    held = next(filter(own_folders.is_held, PLACES), chosen)
+    held = next(filter(own_folders.is_held_throughout, PLACES), chosen)
     if held != chosen:
         _tell_of_place(chosen, held)
     return held

@@ -6,11 +6,12 @@ What is run or taken for true later is written into no other folder, and taken f
 from __future__ import annotations
 
 import contextlib
+import errno
 import os
 import pathlib
 import pwd
 import stat
-from collections.abc import Sequence
+from collections.abc import Iterator, Sequence
 
 from .refusals import Refused
 
@@ -21,6 +22,8 @@ SETTINGS = ("HOME", "XDG_CONFIG_HOME", "XDG_DATA_HOME")
 NOWHERE = "/nonexistent"
 # Who else may look into a folder that is made is up to its user's umask; none but this user may write there.
 MODE, PRIVATE = 0o755, 0o700
+# As many links as Linux follows on the way to a file.
+MOST_LINKS = 40
 
 
 def fault(path: str | os.PathLike[str]) -> str:
@@ -57,6 +60,39 @@ def is_held(path: str | os.PathLike[str]) -> bool:
     except OSError:
         return False
     return found.st_uid in (0, os.geteuid()) and not (found.st_mode & stat.S_IWOTH and not found.st_mode & stat.S_ISVTX)
+
+
+def is_held_throughout(path: str) -> bool:
+    """The same of all folders above it, too, and of links on the way: who may rename one of them may put another tree in its place. Those above
+    the user's home are not looked at, since who may rename them has all that the user does, nor is the owner of / another user."""
+    try:
+        owners = (0, os.geteuid(), os.stat("/").st_uid)
+        found = [os.lstat(it) for it in _on_the_way(os.path.join(os.getcwd(), path), _above(os.environ.get("HOME", "")))]
+    except OSError:
+        return False
+    return all(it.st_uid in owners and (stat.S_ISLNK(it.st_mode) or it.st_mode & (stat.S_IWOTH | stat.S_ISVTX) != stat.S_IWOTH) for it in found)
+
+
+def _above(path: str) -> set[str]:
+    """The folders above a path, and above the one to which it leads."""
+    return {str(it) for place in (path, os.path.realpath(path)) if os.path.isabs(place) for it in pathlib.Path(place).parents}
+
+
+def _on_the_way(path: str, known: set[str]) -> Iterator[str]:
+    """The folders and links on the way to a folder, itself among them, without those that are known."""
+    at, rest, links = "/", path.split("/")[::-1], 0
+    while rest:
+        name = rest.pop()
+        at = os.path.dirname(at) if name == ".." else os.path.join(at, name) if name not in ("", ".") else at
+        if at not in known:
+            yield at
+        if os.path.islink(at):
+            links += 1
+            if links > MOST_LINKS:
+                raise OSError(errno.ELOOP, os.strerror(errno.ELOOP))
+            target = os.readlink(at)
+            rest += target.split("/")[::-1]
+            at = "/" if os.path.isabs(target) else os.path.dirname(at)
 
 
 def is_of_group(path: str | os.PathLike[str]) -> bool:
@@ -149,7 +185,7 @@ def _kept(variable: str, below_home: list[str], names: Sequence[str]) -> str:
                     os.mkdir(place, PRIVATE)
             why = fault(place)
             # What others put into a folder above is theirs, or a link, and so is seen; but not where it is put there after this.
-            if not is_held(os.path.dirname(place)) or why and (why != OTHERS_MAY_WRITE or place == places[-1]):
+            if not is_held_throughout(os.path.dirname(place)) or why and (why != OTHERS_MAY_WRITE or place == places[-1]):
                 return ""
     except (OSError, StopIteration, ValueError):
         return ""

@@ -12,7 +12,7 @@ from bsptools.plot.profile import Profile, Reading
 from bsptools.plot.superstep_costs import Prices, of_report
 from bsptools.refusals import Refused
 
-from ._tools import BspError, Number
+from ._tools import BspError
 
 
 @contextlib.contextmanager
@@ -51,13 +51,13 @@ def shown(make: Callable[[], Any]) -> Any:
     return made.figure
 
 
-def timeline(profile: Profile, g: Number, l: Number, title: str) -> Any:
+def timeline(profile: Profile, prices: Prices, title: str) -> Any:
     """The run in time."""
 
     def make() -> Any:
         from bsptools.plot import timeline as picture
 
-        return picture.draw(profile.supersteps, Prices(g, l), Reading.OTHERS, title)
+        return picture.draw(profile.supersteps, prices, Reading.OTHERS, title)
 
     return shown(make)
 
@@ -73,13 +73,13 @@ def matrix(profile: Profile, title: str) -> Any:
     return shown(make)
 
 
-def costs(report: Report, g: Number, l: Number, title: str) -> Any:
+def costs(report: Report, prices: Prices, title: str) -> Any:
     """What each superstep costs."""
 
     def make() -> Any:
         from bsptools.plot import cost_split
 
-        return cost_split.draw(of_report(report), Prices(g, l), title)
+        return cost_split.draw(of_report(report), prices, title)
 
     return shown(make)
 

@@ -12,7 +12,7 @@ from typing import Any, NoReturn
 from ._runs import Command, expect_free, made
 from ._tools import BspError
 
-HELP = "%%bsp [-n P] [--profile] [--matrix] [--costs] [--g G] [--l L] [--name VARIABLE] [options of bsprun] [-- ARGS]"
+HELP = "%%bsp [-n P] [--profile] [--matrix] [--costs] [--name VARIABLE] [options of bsprun, such as --g and --l] [-- ARGS]"
 
 # What a notebook has in its variables for itself.
 OF_NOTEBOOK = ("get_ipython", "In", "Out", "exit", "quit")
@@ -31,8 +31,6 @@ def bsp(line: str, cell: str) -> Any:
     reader = Words(prog="%%bsp", add_help=False, allow_abbrev=False)
     for name in ("--profile", "--matrix", "--costs"):
         reader.add_argument(name, action="store_true")
-    reader.add_argument("--g", default="1")
-    reader.add_argument("--l", default="0")
     reader.add_argument("--name", default="bsp_run")
     try:
         words = shlex.split(line)
@@ -63,7 +61,7 @@ def show(run: Any, asked: argparse.Namespace) -> None:
     print(run.told, end="")
     for wanted, figure in ((asked.profile, run.timeline), (asked.costs, run.costs)):
         if wanted:
-            display(figure(asked.g, asked.l))
+            display(figure())
     if asked.matrix:
         display(run.matrix())
     get_ipython().user_ns[asked.name] = run

@@ -8,8 +8,10 @@ import pathlib
 from typing import TYPE_CHECKING, Any, Dict, List, Mapping, NamedTuple, Optional, Sequence, Union
 
 from bsptools import children, limits
+from bsptools.commands import bsprun
 from bsptools.files import content_of
 from bsptools.outputs.output_records import writes_files
+from bsptools.plot.superstep_costs import Prices
 from bsptools.refusals import Refused, counted
 
 from . import _figures, _frames
@@ -112,6 +114,12 @@ def may_write(program: str) -> bool:
         return False  # bsprun says why
 
 
+def prices_of(command: Command) -> Prices:
+    """The prices of a run that bsprun has made."""
+    asked = bsprun.parser().parse_args([*command.options, command.program])
+    return Prices(asked.g, asked.l)
+
+
 def made(command: Command, check: bool) -> Run:
     """The run of a command line."""
     with children.folder("bspemu") as folder:
@@ -143,6 +151,8 @@ class Run:
         ``"ended"``, or how it was stopped.
     status : int
         The exit status of `bsprun`.
+    prices : tuple
+        g and l of the run: those of its options `--g`, `--l` and `--machine`, or 1 and 0.
     files : dict of str to bytes
         The files that the program wrote, if it is a C program or was built by `bspcc`. They are nowhere else.
     """
@@ -153,6 +163,7 @@ class Run:
         self.output = done.output.decode(errors="replace")
         self._report, self._profile = _frames.report_of(report), _frames.profile_of(profile)
         self.outcome: str = self._report.outcome
+        self.prices = prices_of(command)
 
     def __repr__(self) -> str:
         costs = f"{counted(len(self._report.supersteps), 'superstep')}, w {self.w}, h {self.h}"
@@ -168,20 +179,24 @@ class Run:
         """The h-relations of all supersteps, in bytes: of each, the most that a rank sent or received."""
         return sum(it.costs["h"] for it in self._report.supersteps)
 
-    def cost(self, g: Price = 1, l: Price = 0) -> Number:
+    def _at(self, g: Optional[Price], l: Optional[Price]) -> Prices:
+        return Prices(self.prices.g if g is None else exact(g), self.prices.l if l is None else exact(l))
+
+    def cost(self, g: Optional[Price] = None, l: Optional[Price] = None) -> Number:
         """What the run costs at these prices, exactly: w + g*h + l for each superstep. Nothing is run again.
 
         Parameters
         ----------
-        g, l : int, float, str or Fraction
-            Ticks for a byte of h, and for the end of a superstep; "31/8" is a price too.
+        g, l : int, float, str or Fraction, optional
+            Ticks for a byte of h, and for the end of a superstep; "31/8" is a price too. By default they are `prices`, those of the run.
 
         Returns
         -------
         int or Fraction
             The cost in ticks.
         """
-        return exact(self.w + exact(g) * self.h + exact(l) * len(self._report.supersteps))
+        at = self._at(g, l)
+        return exact(self.w + at.g * self.h + at.l * len(self._report.supersteps))
 
     @property
     def supersteps(self) -> pandas.DataFrame:
@@ -211,14 +226,14 @@ class Run:
                 raise BspError(done.told.strip(), done.status, self)
             return _frames.lines(path.read_text(encoding="utf-8"))
 
-    def timeline(self, g: Price = 1, l: Price = 0, title: str = "") -> Any:
+    def timeline(self, g: Optional[Price] = None, l: Optional[Price] = None, title: str = "") -> Any:
         """A matplotlib figure of the run in time: each rank's work and waiting, the exchanges, and the ends of supersteps."""
-        return _figures.timeline(self._profile, exact(g), exact(l), title)
+        return _figures.timeline(self._profile, self._at(g, l), title)
 
     def matrix(self, title: str = "") -> Any:
         """A matplotlib figure of the bytes that went from rank to rank."""
         return _figures.matrix(self._profile, title)
 
-    def costs(self, g: Price = 1, l: Price = 0, title: str = "") -> Any:
+    def costs(self, g: Optional[Price] = None, l: Optional[Price] = None, title: str = "") -> Any:
         """A matplotlib figure of what each superstep costs, split into w, g*h and l."""
-        return _figures.costs(self._report, exact(g), exact(l), title)
+        return _figures.costs(self._report, self._at(g, l), title)

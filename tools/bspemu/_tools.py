@@ -11,6 +11,8 @@ import sys
 from fractions import Fraction
 from typing import Any, Iterable, List, NamedTuple, Tuple, Union
 
+from bsptools.options import FLAGS
+
 HERE = pathlib.Path(__file__).resolve().parent
 # Beside this package in a checkout; in a wheel, in what it has beside its modules.
 STARTER = HERE.parent if (HERE.parent / "__main__.py").exists() else HERE / "share/tools"
@@ -55,8 +57,10 @@ def words_of(name: str, words: Iterable[str]) -> List[str]:
 
 def call(name: str, words: Iterable[str]) -> Done:
     """Runs a tool to its end. Where this is interrupted, as by Ctrl-C or a notebook's stop, or the tool writes without an end, it is told to
-    end and clears away."""
-    with subprocess.Popen(words_of(name, words), stdin=subprocess.DEVNULL, stdout=subprocess.PIPE, stderr=subprocess.PIPE) as child:
+    end and clears away. What a run costs depends on no options that the environment has for bsprun, as with bspsweep."""
+    environment = {name: it for name, it in os.environ.items() if name != FLAGS}
+    words = words_of(name, words)
+    with subprocess.Popen(words, stdin=subprocess.DEVNULL, stdout=subprocess.PIPE, stderr=subprocess.PIPE, env=environment) as child:
         _running.append(child)
         try:
             output, told = _heard(child)

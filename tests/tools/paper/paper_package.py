@@ -43,6 +43,8 @@ for figure in (run.timeline(l=200), run.matrix(), run.costs(g="31/8", l=10)):
 wrote = bspemu.run("wrote.c", input="7\\n")
 print(wrote.files, wrote.output)
 built, cell = bspemu.run("wrote.elf", input="7\\n"), made(Command([], "cell.c", [], b"", open("wrote.c").read()), True)
+priced = bspemu.run("sieve.c", nodes=4, args=[1000], options=["--g", "4", "--l", "7", "--summary"])
+print(json.dumps([priced.cost(), priced.cost(4, 7), run.cost() == run.w + run.h, priced.cost(l=0) == run.cost(4), priced.told, priced.w == run.w]))
 print(built.files, [int(it.lines["w"].sum()) == it.w for it in (wrote, built, cell)], os.path.exists("a.txt"))
 for bad in (lambda: bspemu.run("none.c"), lambda: bspemu.run("three.c"), lambda: bspemu.sweep("none.c"), lambda: sweep.curves(x="N"),
             lambda: bspemu.sweep("sieve.c", prices=["5"]), lambda: run.cost(g="a"), lambda: bspemu.run("sieve.c", options=["--report=r.csv"]),
@@ -77,7 +79,8 @@ def parts(make: Parts) -> List[Part]:
 
 def python(folder: pathlib.Path, *words: str, path: str = str(REPO / "tools")) -> "subprocess.CompletedProcess[str]":
     """A run of this Python in a folder, with the package on its path and nothing of the user's."""
-    environment = {**os.environ, "PYTHONPATH": path, "HOME": str(folder), "PYTHONDONTWRITEBYTECODE": "1"}
+    # Options of a class for bsprun, which change what a program costs.
+    environment = {**os.environ, "PYTHONPATH": path, "HOME": str(folder), "PYTHONDONTWRITEBYTECODE": "1", "BSPRUN_FLAGS": "-O0"}
     return subprocess.run([sys.executable, *words], cwd=folder, env=environment, capture_output=True, text=True, check=False, timeout=SECONDS)
 
 
@@ -92,7 +95,7 @@ def imported(check: Check) -> None:
     (check.folder / "typed.py").write_text(SCRIPT)
     done = python(check.folder, "typed.py")
     lines = done.stdout.splitlines()
-    check.expect("what is typed", done.returncode == 0 and len(lines) == 21, done.stdout + done.stderr)
+    check.expect("what is typed", done.returncode == 0 and len(lines) == 22, done.stdout + done.stderr)
     report = check.tool("bsprun", "-n", "4", "--report", "r.json", "--g", "4", "--l", "7", "sieve.c", "1000")
     told = json.loads((check.folder / "r.json").read_text())
     w, h = (sum(it[name] for it in told["supersteps"]) for name in ("w", "h"))
@@ -107,16 +110,19 @@ def imported(check: Check) -> None:
     check.expect("lines", lines[4].split()[:2] == [str(w), "int64"], lines[4])
     check.expect("figures", lines[5:8] == ["matplotlib.figure True"] * 3, lines[5:8])
     check.expect("files and input", lines[8] == "{'a.txt': b'7'} ", lines[8])
-    check.expect("files of an executable, and of lines", lines[9] == "{'a.txt': b'7'} [True, True, True] False", lines[9])
+    priced = json.loads(lines[9])
+    right = priced[:4] == [told["total"], told["total"], True, True] and f"total {told['total']}" in priced[4] and priced[5]
+    check.expect("the prices of a run, and no options of the environment", right, priced)
+    check.expect("files of an executable, and of lines", lines[10] == "{'a.txt': b'7'} [True, True, True] False", lines[10])
     wanted: List[Tuple[int, str]] = [(1, "none.c"), (2, "ended with status 3"), (1, "none.c"), (1, "the table has no column N")]
     wanted += [(1, "'5' is not a pair of prices"), (1, "'a' is not a price"), (1, "--report is not for runs from Python")]
     wanted += [(1, "which has its own prices: give --g and --l to bspsweep"), (1, "--x has no effect on --map: it is for --curves and --table")]
-    for line, (status, text) in zip(lines[10:19], wanted):
+    for line, (status, text) in zip(lines[11:20], wanted):
         found = json.loads(line)
         check.expect(f"the exception of {text}", found[0] == status and text in found[1] and found[2] == (status == 2), line)
     noted = ["typed.py", "1 of 3 runs did not end well and is left out: sieve.c, 1 node, args 100: rank 0 stopped: aborted"]
-    check.expect("warnings of runs that are left out", json.loads(lines[19]) == [noted] * 4, lines[19])
-    check.expect("a sweep by processes", json.loads(lines[20]) == [6, "Int64", "Float64", ["ended"]], lines[20])
+    check.expect("warnings of runs that are left out", json.loads(lines[20]) == [noted] * 4, lines[20])
+    check.expect("a sweep by processes", json.loads(lines[21]) == [6, "Int64", "Float64", ["ended"]], lines[21])
     # The key that seals results is below the home of whoever made them.
     again = [str(REPO / "bspsweep"), "--again", "sweep.csv.json", "--engine", "plain"]
     home = {**os.environ, "HOME": str(check.folder)}
@@ -214,6 +220,17 @@ def copied(folder: pathlib.Path) -> None:
     shutil.copytree(PAPER, folder / "examples/paper", ignore=shutil.ignore_patterns(".*"))
 
 
+# A cell with prices: the summary, the run and its figures have the same ones.
+CELL = """
+from IPython.core.interactiveshell import InteractiveShell
+shell = InteractiveShell.instance()
+shell.run_line_magic("load_ext", "bspemu")
+shell.run_cell_magic("bsp", "-n 2 --g 4 --l 100 --summary", "#include <bsp.h>\\nint main(void) { bsp_begin(2); bsp_sync(); bsp_end(); return 0; }\\n")
+run = shell.user_ns["bsp_run"]
+print(f"total {run.cost()}" in run.told, run.cost() == run.cost(4, 100), len(run.lines) > 0)
+"""
+
+
 def notebook(check: Check) -> None:
     """The notebook runs from its first cell to its last, and its pictures show themselves."""
     copied(check.folder)
@@ -230,3 +247,5 @@ def notebook(check: Check) -> None:
     check.expect("a page of it", done.returncode == 0 and page.exists() and page.read_text().count('src="data:image/svg+xml;base64,') == 3, done.stderr[-2000:])
     said = "".join("".join(it.get("text", [])) for it in outputs)
     check.expect("its texts", "rank 0 has 3" in said and "\\bottomrule" in said and "\\begin{tabular}" in said, said)
+    done = python(check.folder, "-c", CELL)
+    check.expect("the prices of a cell", done.stdout.endswith("True True True\n"), done.stdout + done.stderr)

@@ -9,15 +9,13 @@ import re
 import stat
 
 from .. import limits
-from ..files import content_of
+from ..files import OF_SYSTEM, content_of, is_of_system
 from ..refusals import Refused, about
 
 # Of a folder that is given.
 MOST_FILES = 1000
 # Files of one form of name that are given together, and their bytes.
 MOST_TOGETHER, MOST_BYTES = 256, 1 << 22
-# What is no file of a person, and may differ from host to host.
-SYSTEM = ("/proc/", "/sys/", "/dev/")
 
 
 def given_files(options: argparse.Namespace) -> list[tuple[bytes, bytes]]:
@@ -31,7 +29,7 @@ def given_files(options: argparse.Namespace) -> list[tuple[bytes, bytes]]:
         expect_fits(size, most)
         found.append((os.fsencode(told_names(options).get(name, name)), content))
     for word in dict.fromkeys(options.args):
-        if word not in names and os.path.isfile(word) and size + os.path.getsize(word) <= most:
+        if word not in names and is_given(word) and size + os.path.getsize(word) <= most:
             content = content_of(word, most)
             size += len(content)
             found.append((os.fsencode(word), content))
@@ -55,21 +53,25 @@ def expect_fits(size: int, most: int) -> None:
 
 def given_names(options: argparse.Namespace) -> list[str]:
     """The files that a program is given."""
-    return [*options.file, *options.found, *(it for folder in options.files for it in files_of(folder)), *filter(os.path.isfile, options.args)]
+    return [*options.file, *options.found, *(it for folder in options.files for it in files_of(folder)), *filter(is_given, options.args)]
 
 
 def files_read(options: argparse.Namespace) -> list[str]:
     """All files that a run reads: the program, with more sources of it, its input, accepted pairs of lines, and what it is given."""
-    names = [options.program, *filter(None, [options.input, options.accept]), *options.file, *filter(os.path.isfile, options.args)]
+    names = [options.program, *filter(None, [options.input, options.accept]), *options.file, *filter(is_given, options.args)]
     return [*names, *(it for folder in options.files for it in files_of(folder))]
+
+
+def is_given(name: str) -> bool:
+    """Whether a name that stands among others is that of a file which a program gets: no link to a file of the system."""
+    return os.path.isfile(name) and not (is_of_system(name) and not os.path.abspath(name).startswith(OF_SYSTEM))
 
 
 def is_file(name: str) -> bool:
     """Whether a name is that of a file that can be given though nobody asked for that."""
     with contextlib.suppress(OSError, ValueError):
         found = os.stat(name)
-        is_system = os.path.abspath(name).startswith(SYSTEM)
-        return stat.S_ISREG(found.st_mode) and found.st_size <= limits.MOST_INPUT and not is_system and os.access(name, os.R_OK)
+        return stat.S_ISREG(found.st_mode) and found.st_size <= limits.MOST_INPUT and not is_of_system(name) and os.access(name, os.R_OK)
     return False
 
 
@@ -90,7 +92,7 @@ def files_of(folder: str) -> list[str]:
     """The files of a folder, and none of those below it."""
     with about(folder), os.scandir(folder) as entries:
         # A link may lead nowhere, or to itself.
-        names = sorted(it.path for it in entries if os.path.isfile(it.path))
+        names = sorted(it.path for it in entries if is_given(it.path))
     if len(names) > MOST_FILES:
         raise Refused(f"{folder} has {len(names)} files, and --files gives {MOST_FILES} at most: give those that the program reads by --file")
     return names

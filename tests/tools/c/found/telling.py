@@ -303,7 +303,11 @@ class Telling:
         for _ in range(2):
             done = self.run("-n", "2", "share.c")
             self.expect("a file of another rank", done, 4, "rank 0 has written it, and ranks share no files", "wrote shared.txt")
-        self.expect("a device", self.run("show.elf", given="/proc/version\n"), 4, "/proc/version could not be read")
+        (self.folder / "link.txt").symlink_to("/proc/version")
+        for name in ("/proc/version", "link.txt"):
+            self.expect(f"a file of the system, {name}", self.run("show.elf", given=f"{name}\n"), 4, f"{name} could not be read")
+        done = self.run("--files", ".", "show.elf", "link.txt")
+        self.tally.expect("a link to one in a folder and among words", "Linux" not in done.stdout, done)
 
     def given(self) -> None:
         """Words that are files, and all files of a folder."""

@@ -209,12 +209,15 @@ def _own_target(path: str | os.PathLike[str]) -> tuple[str, bool]:
 
 
 def _expect_own(path: str | os.PathLike[str], found: os.stat_result, folder: str) -> None:
-    """Refuses a link or a pipe of another user in a folder where others may write, unless it is the folder's owner's, or root's."""
-    above = os.stat(folder)
+    """Refuses a link of another user, who chooses what is written by it; root and the owner of / are none. Refuses a pipe of another user in a
+    folder where others may write, unless it is the folder's owner's."""
+    above, known = os.stat(folder), {0, os.geteuid(), os.stat("/").st_uid}
     is_plain = stat.S_ISREG(found.st_mode) or stat.S_ISDIR(found.st_mode)
-    if not is_plain and above.st_mode & own_folders.OTHERS_WRITE and found.st_uid not in (0, os.geteuid(), above.st_uid):
-        kind = "symbolic link" if stat.S_ISLNK(found.st_mode) else "pipe"
-        raise Refused(f"{os.fspath(path)} is a {kind} of another user: give another name")
+    if stat.S_ISLNK(found.st_mode):
+        if found.st_uid not in known:
+            raise Refused(f"{os.fspath(path)} is a symbolic link of another user: give another name")
+    elif not is_plain and above.st_mode & own_folders.OTHERS_WRITE and found.st_uid not in known | {above.st_uid}:
+        raise Refused(f"{os.fspath(path)} is a pipe of another user: give another name")
 
 
 def _keep_mode(path: str, new: int) -> None:

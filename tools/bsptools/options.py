@@ -99,10 +99,18 @@ class Parser(argparse.ArgumentParser):
         found, rest = super().parse_known_args(args, namespace)
         is_rest = any(it.dest == "args" and not it.option_strings for it in self._actions)
         given = getattr(found, "args", None) if is_rest else None
+        self._expect_options(self._words[: len(self._words) - len(given or [])])
         # argparse drops a first `--`, also one that is an argument of the program.
         if given is not None and self._words[: len(self._words) - len(given)][-1:] == ["--"]:
             given.insert(0, "--")
         return found, rest
+
+    def _expect_options(self, words: list[str]) -> None:
+        """Refuses an option that is the name of a file here: of all files of somebody else's folder, as `*`, one may be named so."""
+        before = words[: words.index("--")] if "--" in words else words
+        for it in before:
+            if it.startswith("-") and os.path.lexists(it):
+                raise Refused(f"{it} is a file here, and would be an option: give it as ./{it}, or rename it")
 
     def error(self, message: str) -> NoReturn:
         """Says what is wrong, and how a file or a value is given that was taken for options."""

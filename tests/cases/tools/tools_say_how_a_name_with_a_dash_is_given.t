@@ -14,8 +14,7 @@ A file whose name begins with a dash is taken by a path, and where it was taken 
   bspgdb: -x.elf is a file here, and begins as options do: give it as ./-x.elf (stderr)
   [1]
   $ bspsweep --folder kept -n 3 -x.elf
-  bspsweep: unrecognized arguments: -x.elf; bspsweep --help lists the options (stderr)
-  bspsweep: -x.elf is a file here, and begins as options do: give it as ./-x.elf (stderr)
+  bspsweep: -x.elf is a file here, and would be an option: give it as ./-x.elf, or rename it (stderr)
   [1]
   $ bspplot --costs costs.svg -x.elf
   bspplot: the following arguments are required: SOURCE; bspplot --help lists the options (stderr)
@@ -27,8 +26,20 @@ A file whose name begins with a dash is taken by a path, and where it was taken 
   bsprun: -p.c is a file here, and begins as options do: give it as ./-p.c (stderr)
   [1]
   $ bspcc --small -o p.elf -p.c
-  bspcc: -p.c is a file here, and begins as options do: give it as ./-p.c (stderr)
+  bspcc: -p.c is a file here, and would be an option: give it as ./-p.c, or rename it (stderr)
   [1]
   $ bsprun --no-such-option ./-x.elf
   bsprun: unrecognized arguments: --no-such-option; bsprun --help lists the options (stderr)
+  [1]
+  $ echo 5 >--report=r.csv
+  $ bsprun -n 3 --report=r.csv ./-x.elf
+  bsprun: --report=r.csv is a file here, and would be an option: give it as ./--report=r.csv, or rename it (stderr)
+  [1]
+  $ mkdir -- --hosts=none
+  $ bspsweep --folder kept -n 3 ./-x.elf --hosts=none
+  bspsweep: --hosts=none is a file here, and would be an option: give it as ./--hosts=none, or rename it (stderr)
+  [1]
+  $ bsprun -n 3 ./-x.elf --report=r.csv
+  bsprun: --report=r.csv after PROGRAM is an argument of the program (stderr)
+  bsprun: ./-x.elf takes no arguments and no files: it was not built by this bspcc (stderr)
   [1]

@@ -2,6 +2,7 @@
 
 from __future__ import annotations
 
+import argparse
 import functools
 import os
 import pathlib
@@ -11,11 +12,12 @@ from bsptools import children, limits
 from bsptools.commands import bsprun
 from bsptools.files import content_of
 from bsptools.outputs.output_records import writes_files
+from bsptools.plot.profile import Profile
 from bsptools.plot.superstep_costs import Prices
 from bsptools.refusals import Refused, counted
 
 from . import _figures, _frames
-from ._tools import BspError, Done, Number, Price, call, exact
+from ._tools import BspError, Done, Number, Price, call, exact, parted, several
 
 if TYPE_CHECKING:
     import pandas
@@ -23,7 +25,7 @@ if TYPE_CHECKING:
 # Programs that bsprun compiles, and so which can write files.
 COMPILED = (".c", ".cc", ".cpp", ".cxx", ".C")
 # Options of bsprun that each run here has by itself.
-TAKEN = ("--report", "--profile", "--out")
+TAKEN = ("--report", "--profile", "--out", "--help", "-h", "--version")
 Path = Union[str, "os.PathLike[str]"]
 
 
@@ -32,10 +34,10 @@ def run(
     *,
     nodes: int = 1,
     defines: Optional[Mapping[str, object]] = None,
-    args: Sequence[object] = (),
+    args: Union[str, Sequence[object]] = (),
     input: Union[bytes, str, "os.PathLike[str]"] = b"",  # pylint: disable=redefined-builtin
-    files: Sequence[Path] = (),
-    options: Sequence[str] = (),
+    files: Union[Path, Sequence[Path]] = (),
+    options: Union[str, Sequence[str]] = (),
     check: bool = True,
 ) -> Run:
     """Compile a program if it has to be, and run it on an emulated BSP machine.
@@ -45,17 +47,17 @@ def run(
     program : path
         A C program, an ELF file, an assembly text or a raw image, as `bsprun` takes them.
     nodes : int
-        The number of nodes, 1 to 65,536. More than 1,024 make a large machine, as `bsprun --large` does.
+        The number of nodes, 1 to 65,536. More than 1,024 make a large machine, as `bsprun --large` does; their run has no profile.
     defines : mapping, optional
         Compile-time constants of a C program: ``{"N": 64}``.
-    args : sequence
-        Arguments of `main`.
+    args : sequence, or str
+        Arguments of `main`; a text is parted as a shell does.
     input : bytes, str or path
         The program's standard input: its bytes or its text, or an `os.PathLike` that names a file with them.
-    files : sequence of paths
+    files : path or sequence of paths
         Files that the program can open.
-    options : sequence of str
-        More options of `bsprun`, as ``["--strict"]``.
+    options : sequence of str, or str
+        More options of `bsprun`, as ``["--strict"]``; a text is parted as a shell does.
     check : bool
         Whether a run that did not end well raises.
 
@@ -68,11 +70,12 @@ def run(
     BspError
         If the run could not be made, or did not end well and `check` is true; with the text that `bsprun` prints.
     """
-    expect_free(options)
+    more = parted(options)
+    expect_free(more)
     words = ["-n", str(nodes), *(f"-D{name}={value}" for name, value in (defines or {}).items())]
-    words += [it for name in files for it in ("--file", os.fspath(name))]
+    words += [it for name in several(files) for it in ("--file", os.fspath(name))]
     given = input.encode() if isinstance(input, str) else input if isinstance(input, bytes) else pathlib.Path(input).read_bytes()
-    return made(Command([*words, *options], os.fspath(program), [str(it) for it in args], given), check)
+    return made(Command([*words, *more], os.fspath(program), parted(args), given), check)
 
 
 def expect_free(options: Sequence[str]) -> None:
@@ -114,20 +117,26 @@ def may_write(program: str) -> bool:
         return False  # bsprun says why
 
 
-def prices_of(command: Command) -> Prices:
-    """The prices of a run that bsprun has made."""
-    asked = bsprun.parser().parse_args([*command.options, command.program])
-    return Prices(asked.g, asked.l)
+def asked_of(command: Command) -> argparse.Namespace:
+    """What bsprun reads of a command line."""
+    try:
+        return bsprun.parser().parse_args([*command.options, command.program])
+    except Refused as refused:
+        raise BspError("\n".join(f"bsprun: {it}" for it in refused.args)) from refused
+    except SystemExit as ended:
+        raise BspError("an option is not for runs from Python: it asks for a help or a version") from ended
 
 
 def made(command: Command, check: bool) -> Run:
     """The run of a command line."""
+    asked = asked_of(command)
     with children.folder("bspemu") as folder:
         report, profile = folder / "report.json", folder / "profile.csv"
-        done = call("bsprun", ["--report", str(report), "--profile", str(profile), *command.words(folder)])
+        words = ["--profile", str(profile)] if int(asked.nodes) <= limits.USUAL.nodes else []
+        done = call("bsprun", ["--report", str(report), *words, *command.words(folder)])
         if not report.exists():
             raise BspError(done.told.strip() or f"bsprun ended with status {done.status}, and wrote no report", done.status)
-        found = Run(command, done, report.read_bytes(), profile.read_text(encoding="utf-8"), written(folder / "out"))
+        found = Run(command, asked, done, report.read_bytes(), profile.read_text(encoding="utf-8") if words else "", written(folder / "out"))
     if check and (found.outcome != "ended" or done.status):
         raise BspError(done.told.strip() or found.outcome, done.status, found)
     return found
@@ -157,17 +166,23 @@ class Run:
         The files that the program wrote, if it is a C program or was built by `bspcc`. They are nowhere else.
     """
 
-    def __init__(self, command: Command, done: Done, report: bytes, profile: str, files: Dict[str, bytes]) -> None:
-        self._command = command
+    def __init__(self, command: Command, asked: argparse.Namespace, done: Done, report: bytes, profile: str, files: Dict[str, bytes]) -> None:
+        self._command, self._nodes = command, int(asked.nodes)
         self.status, self.output_bytes, self.told, self.files = done.status, done.output, done.told, files
         self.output = done.output.decode(errors="replace")
-        self._report, self._profile = _frames.report_of(report), _frames.profile_of(profile)
+        self._report, self._profiled = _frames.report_of(report), _frames.profile_of(profile) if profile else None
         self.outcome: str = self._report.outcome
-        self.prices = prices_of(command)
+        self.prices = Prices(asked.g, asked.l)
 
     def __repr__(self) -> str:
         costs = f"{counted(len(self._report.supersteps), 'superstep')}, w {self.w}, h {self.h}"
-        return f"<bspemu.Run: {counted(self._profile.nodes, 'node')}, {costs}; {self.outcome}>"
+        return f"<bspemu.Run: {counted(self._nodes, 'node')}, {costs}; {self.outcome}>"
+
+    @property
+    def _profile(self) -> Profile:
+        if self._profiled is None:
+            raise BspError(f"a run on more than {limits.USUAL.nodes} nodes has no profile")
+        return self._profiled
 
     @property
     def w(self) -> int:

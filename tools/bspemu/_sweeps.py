@@ -18,7 +18,7 @@ from bsptools.sweep import result_table, table_record
 from bsptools.sweep.result_store import MAIN
 
 from . import _figures, _frames
-from ._tools import BspError, Price, call, end_all, exact
+from ._tools import BspError, Price, call, end_all, exact, several
 
 if TYPE_CHECKING:
     import pandas
@@ -31,19 +31,19 @@ SOURCE = "table.csv"
 def sweep(
     programs: Union[Path, Sequence[Path]],
     *,
-    nodes: Optional[Iterable[int]] = None,
-    g: Iterable[Price] = (),
-    l: Iterable[Price] = (),
-    prices: Iterable[Union[str, Tuple[Price, Price]]] = (),
-    machines: Iterable[str] = (),
+    nodes: Optional[Union[int, Iterable[int]]] = None,
+    g: Union[Price, Iterable[Price]] = (),
+    l: Union[Price, Iterable[Price]] = (),
+    prices: Union[str, Iterable[Union[str, Tuple[Price, Price]]]] = (),
+    machines: Union[str, Iterable[str]] = (),
     interpolate: Optional[str] = None,
-    defines: Optional[Mapping[str, Iterable[object]]] = None,
-    args: Iterable[str] = (),
-    inputs: Iterable[Path] = (),
+    defines: Optional[Mapping[str, object]] = None,
+    args: Union[str, Iterable[str]] = (),
+    inputs: Union[Path, Iterable[Path]] = (),
     folder: Path = ".bspsweep",
     executor: Optional[concurrent.futures.Executor] = None,
 ) -> Sweep:
-    """Run programs over lists of settings, each with each. What was run before is not run again.
+    """Run programs over lists of settings, each with each. What was run before is not run again. One value may stand in place of a list.
 
     Parameters
     ----------
@@ -82,17 +82,16 @@ def sweep(
         If a program is not compiled, or a run could not be made; with the text that `bspsweep` prints.
     """
     words = ["--folder", os.fspath(folder)]
-    words += [f"--nodes={','.join(map(str, nodes))}"] if nodes is not None else []
-    words += [f"--{name}={','.join(map(priced, them))}" for name, them in (("g", list(g)), ("l", list(l))) if them]
-    pairs, named = list(map(paired, prices)), list(machines)
+    words += [f"--nodes={','.join(map(str, several(nodes)))}"] if nodes is not None else []
+    words += [f"--{name}={','.join(map(priced, them))}" for name, them in (("g", several(g)), ("l", several(l))) if them]
+    pairs, named = list(map(paired, several(prices))), several(machines)
     words += [f"--prices={','.join(pairs)}"] if pairs else []
     words += [f"--machine={','.join(named)}"] if named else []
     words += [f"--interpolate={interpolate}"] if interpolate else []
-    words += [f"--define={name}={','.join(map(str, values))}" for name, values in (defines or {}).items()]
-    words += [f"--args={it}" for it in args] + [f"--input={os.fspath(it)}" for it in inputs]
-    several = [programs] if isinstance(programs, (str, os.PathLike)) else list(programs)
+    words += [f"--define={name}={','.join(map(str, several(values)))}" for name, values in (defines or {}).items()]
+    words += [f"--args={it}" for it in several(args)] + [f"--input={os.fspath(it)}" for it in several(inputs)]
     try:
-        return made([*words, "--", *(os.fspath(it) for it in several)], executor)
+        return made([*words, "--", *(os.fspath(it) for it in several(programs))], executor)
     except Refused as refused:
         raise BspError("\n".join(refused.args)) from refused
 

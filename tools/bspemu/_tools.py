@@ -5,6 +5,7 @@ from __future__ import annotations
 import os
 import pathlib
 import selectors
+import shlex
 import signal
 import subprocess
 import sys
@@ -110,8 +111,21 @@ def end_all() -> None:
 
 def exact(value: Price) -> Number:
     """A price as an exact number: 31/8 may be given as "31/8", 3.875, or a Fraction."""
+    told = f"{value!r} is not a price: give a number such as 4, 3.875 or '31/8'"
     try:
         found = Fraction(repr(value)) if isinstance(value, float) else Fraction(value)
     except (ValueError, TypeError, ZeroDivisionError) as error:
-        raise BspError(f"{value!r} is not a price: give a number such as 4, 3.875 or '31/8'") from error
+        raise BspError(told) from error
+    if found < 0:
+        raise BspError(told)
     return found.numerator if found.denominator == 1 else found
+
+
+def several(values: Any) -> List[Any]:
+    """The values of a list, or the one that stands in place of a list: a text is no list of its letters."""
+    return [values] if isinstance(values, (str, int, float, Fraction, os.PathLike)) else list(values)
+
+
+def parted(words: Any) -> List[str]:
+    """The words of a list, or of a text as a shell parts it."""
+    return shlex.split(words) if isinstance(words, str) else [str(it) for it in several(words)]

@@ -45,10 +45,12 @@ print(wrote.files, wrote.output)
 built, cell = bspemu.run("wrote.elf", input="7\\n"), made(Command([], "cell.c", [], b"", open("wrote.c").read()), True)
 priced = bspemu.run("sieve.c", nodes=4, args=[1000], options=["--g", "4", "--l", "7", "--summary"])
 print(json.dumps([priced.cost(), priced.cost(4, 7), run.cost() == run.w + run.h, priced.cost(l=0) == run.cost(4), priced.told, priced.w == run.w]))
+many = bspemu.run("three.s", nodes=1500)
 print(built.files, [int(it.lines["w"].sum()) == it.w for it in (wrote, built, cell)], os.path.exists("a.txt"))
 for bad in (lambda: bspemu.run("none.c"), lambda: bspemu.run("three.c"), lambda: bspemu.sweep("none.c"), lambda: sweep.curves(x="N"),
             lambda: bspemu.sweep("sieve.c", prices=["5"]), lambda: run.cost(g="a"), lambda: bspemu.run("sieve.c", options=["--report=r.csv"]),
-            lambda: sweep.curves(g="4"), lambda: sweep.map(x="N")):
+            lambda: sweep.curves(g="4"), lambda: sweep.map(x="N"), lambda: run.cost(-1), lambda: bspemu.run("sieve.c", nodes=0),
+            lambda: bspemu.run("sieve.c", options="--help"), lambda: many.profile):
     try:
         bad()
     except bspemu.BspError as error:
@@ -62,6 +64,8 @@ with warnings.catch_warnings(record=True) as noted:
     warnings.simplefilter("always")
     cut.curves(), cut.curves("c.svg"), cut.tex(), cut.tex("t.tex"), cut.curves(only="nodes=2,4"), sweep.curves()
 print(json.dumps([[it.filename.rpartition("/")[2], str(it.message)] for it in noted if "left out" in str(it.message)]))
+alone = bspemu.sweep("sieve.c", nodes=4, g="45", l=7, defines={"N": "16"}, args="1000").frame
+print(alone[["nodes", "g", "l", "N", "args"]].astype(str).values.tolist(), bspemu.run("sieve.c", nodes=4, args="1000").output == run.output)
 print(json.dumps([len(sweep.frame), str(sweep.frame.dtypes["nodes"]), str(sweep.frame.dtypes["total"]), sweep.frame["outcome"].unique().tolist()]))
 """
 
@@ -88,6 +92,7 @@ def imported(check: Check) -> None:
     """What the package says is what the tools say of the same runs."""
     shutil.copy(REPO / "examples/c/sieve.c", check.folder)
     (check.folder / "three.c").write_text("#include <bsp.h>\nint main(void) { bsp_begin(1); bsp_end(); return 3; }\n")
+    (check.folder / "three.s").write_text("li a7, 1\necall\n")
     (check.folder / "wrote.c").write_text(
         "#include <stdio.h>\nint main(void) { int n; scanf(\"%d\", &n); FILE *f = fopen(\"a.txt\", \"w\"); fprintf(f, \"%d\", n); fclose(f); return 0; }\n"
     )
@@ -95,7 +100,7 @@ def imported(check: Check) -> None:
     (check.folder / "typed.py").write_text(SCRIPT)
     done = python(check.folder, "typed.py")
     lines = done.stdout.splitlines()
-    check.expect("what is typed", done.returncode == 0 and len(lines) == 22, done.stdout + done.stderr)
+    check.expect("what is typed", done.returncode == 0 and len(lines) == 27, done.stdout + done.stderr)
     report = check.tool("bsprun", "-n", "4", "--report", "r.json", "--g", "4", "--l", "7", "sieve.c", "1000")
     told = json.loads((check.folder / "r.json").read_text())
     w, h = (sum(it[name] for it in told["supersteps"]) for name in ("w", "h"))
@@ -117,12 +122,14 @@ def imported(check: Check) -> None:
     wanted: List[Tuple[int, str]] = [(1, "none.c"), (2, "ended with status 3"), (1, "none.c"), (1, "the table has no column N")]
     wanted += [(1, "'5' is not a pair of prices"), (1, "'a' is not a price"), (1, "--report is not for runs from Python")]
     wanted += [(1, "which has its own prices: give --g and --l to bspsweep"), (1, "--x has no effect on --map: it is for --curves and --table")]
-    for line, (status, text) in zip(lines[11:20], wanted):
+    wanted += [(1, "-1 is not a price"), (1, "bsprun: argument -n/--nodes: '0': "), (1, "--help is not for runs"), (1, "more than 1024 nodes has no profile")]
+    for line, (status, text) in zip(lines[11:24], wanted):
         found = json.loads(line)
         check.expect(f"the exception of {text}", found[0] == status and text in found[1] and found[2] == (status == 2), line)
     noted = ["typed.py", "1 of 3 runs did not end well and is left out: sieve.c, 1 node, args 100: rank 0 stopped: aborted"]
-    check.expect("warnings of runs that are left out", json.loads(lines[20]) == [noted] * 4, lines[20])
-    check.expect("a sweep by processes", json.loads(lines[21]) == [6, "Int64", "Float64", ["ended"]], lines[21])
+    check.expect("warnings of runs that are left out", json.loads(lines[24]) == [noted] * 4, lines[24])
+    check.expect("one value in place of a list", lines[25] == "[['4', '45', '7', '16', '1000']] True", lines[25])
+    check.expect("a sweep by processes", json.loads(lines[26]) == [6, "Int64", "Float64", ["ended"]], lines[26])
     # The key that seals results is below the home of whoever made them.
     again = [str(REPO / "bspsweep"), "--again", "sweep.csv.json", "--engine", "plain"]
     home = {**os.environ, "HOME": str(check.folder)}

@@ -43,3 +43,6 @@ A file whose name begins with a dash is taken by a path, and where it was taken 
   bsprun: --report=r.csv after PROGRAM is an argument of the program (stderr)
   bsprun: ./-x.elf takes no arguments and no files: it was not built by this bspcc (stderr)
   [1]
+  $ printf '  ebreak\n' >-y.s
+  $ bsprun -- -y.s 2>&1 | grep gdb
+    gdb  bspgdb ./-y.s -- -ex continue

@@ -223,7 +223,8 @@ def words_of(job: Job, parser: Parser) -> list[str]:
     words += [it for name in options.files for it in ("--files", name)]
     words += [option for option, is_given in ((limits.OPTION, options.large), ("--float", options.float), ("--atomic", options.atomic)) if is_given]
     words += [*looks(options), *(options.compiled or [])]
-    return [*words, options.program, *options.sources[1:], *options.args]
+    named = [f"./{it}" if it.startswith("-") else it for it in (options.program, *options.sources[1:])]
+    return [*words, *named, *options.args]
 
 
 def gdb_line(job: Job, parser: Parser, commands: list[str]) -> str:

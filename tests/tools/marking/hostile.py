@@ -314,8 +314,39 @@ TOLD_HIDDEN = {
     "name.c": (f'#line 1 "{"a" * 5000}"\n{UNUSED}', "unused variable 'unused'"),
     "pedantic.c": (f"#define F{'x' * 300}(a...)\n" * 900 + "# 1 \"x.c\" 3\n" + UNUSED, "it could not be checked whether it hides warnings: the compiler prints too much"),
 }  # fmt: skip
+# Macros of the library in all places: in others, in their arguments, over lines, and in conditions.
+MACROS = """#include <assert.h>
+#include <ctype.h>
+#include <errno.h>
+#include <limits.h>
+#include <math.h>
+#include <stdbool.h>
+#include <stdint.h>
+#include <stdlib.h>
+#define MAX(a, b) ((a) > (b) ? (a) : (b))
+#define BIGGEST INT32_MAX
+#define CALL(f, ...) f(__VA_ARGS__)
+#define TEXT(x) #x
+#if INT_MAX > LONG_MIN && defined NULL
+#define ZERO NULL
+#endif
+static int32_t least = INT32_MIN, most = MAX(BIGGEST, CALL(MAX, EOF,
+    INT_MIN
+));
+static bool is_all(const char *text, double x) { return text == ZERO && isnan(x) == false && x < INFINITY && isdigit('1')
+    && errno != ERANGE; }"""
+ALL_MACROS = """
+    NULL
+    == ZERO ? (void)errno : abort();
+    assert(MAX(most,
+        least) == INT32_MAX && CHAR_BIT == 8);
+    if (is_all(NULL, HUGE_VAL > 0 ? M_PI : 0)) CALL(putchar, EOF < 0 ? 'i' : UCHAR_MAX);
+    putchar('t'); fputs(TEXT(
+        ) "\\n", stdout); if (errno) exit(EXIT_FAILURE);"""
 SHOWN = {
     "plain.c": PROGRAM % ("", 'puts("it");'),
+    "macros.c": PROGRAM % (MACROS, ALL_MACROS),
+    "macros.cpp": PROGRAM.replace("#include <bsp.h>", 'extern "C" {\n#include <bsp.h>\n}') % (MACROS, ALL_MACROS),
     "pushes.c": '#pragma GCC diagnostic push\n#pragma GCC diagnostic error "-Wformat"\n#pragma GCC diagnostic pop\n' + PROGRAM % ("", 'puts("it");'),
     "library.cpp": "#include <algorithm>\n#include <memory>\n#include <string>\n" + PROGRAM.replace("#include <bsp.h>", 'extern "C" {\n#include <bsp.h>\n}')
     % ("", f"int n = 1'000; const char *raw = R\"x(\n{IGNORES})x\"; puts(n == 1000 && raw ? \"it\" : \"no\");"),

@@ -257,6 +257,44 @@ CALLS = {
 # First values that are constants only where GCC knows what a function computes; and a name of bspcheck's where GCC replaces nothing.
 LEARNS = "#ifdef __builtin_memcpy\n#define COPY(to, from, size) memmove(to, from, size)\n#else\n#define COPY memcpy\n#endif"
 FIRST = {"learns.c": LEARNS, "first_value.c": "static double FIRST = fabs(-1.0);", "in_comment.c": "static double FIRST = sqrt(4.0);"}
+# Ways to a function without a plain call, where the text is not compiled for bspcheck alone; and uses of its name for something else, where GCC
+# calls the function by itself. Each with what is in front of main, and in it.
+UNPLAIN, STRUCTURES = "\n#ifndef _MACHINE_MATH_H_\n%s\n#endif\n", "struct { char puts, memcpy[999]; } one = {1, {1}}, two, *at = &two;"
+USES = {
+    "parentheses.c": ("", UNPLAIN % '(puts)("it");'), "pointer.c": ("int (*print)(const char *) = puts;", UNPLAIN % 'print("it");'),
+    "pasted.c": ("#define TWO(a, b) a##b", UNPLAIN % 'TWO(pu, ts)("it");'), "continued.c": ("", UNPLAIN % '__builtin_pu\\\nts("it");'),
+    "label.c": ('int print(const char *) __asm__("puts");', UNPLAIN % 'print("it");'),
+    "other_name.c": ("#pragma redefine_extname print puts\nint print(const char *);", UNPLAIN % 'print("it");'),
+    "alias.c": ('static int print(const char *) __attribute__((weakref("puts")));', UNPLAIN % 'print("it");'),
+    "assembly.c": ("", UNPLAIN % '__asm__("call pu" "ts");'),
+    "in_macro.c": ("#define PRINT(it) __asm__(\"call \" #it)", UNPLAIN % "PRINT(puts);"), "table.c": ('__asm__(".word puts");', ""),
+    "inline.c": ("extern inline __attribute__((gnu_inline)) int puts(const char *it) { return printf(\"%s\\n\", it); }", UNPLAIN % '(&puts)("it");'),
+    "array.c": ("extern char array[] __asm__(\"puts\");", UNPLAIN % '((int (*)(const char *))array)("it");'),
+}  # fmt: skip
+HARMLESS = {
+    "member.c": (STRUCTURES, '*at = one; printf(two.puts ? "it\\n" : "");'), "local.c": ("", 'int puts = 1; printf((puts) ? "it\\n" : "");'),
+    "counter.c": ("", '__asm__ volatile("li a0, 1" : : : "a0"); int puts = "puts"[0]; printf(puts ? "it\\n" : "");'),
+    "unused.c": ("#define PRINT(it) puts(it)\nstatic inline int unused(void) { return PRINT(\"no\"); }", 'printf("it\\n");'),
+    "variable.c": (f"static int memcpy = 1; {STRUCTURES}", '*at = one; printf(memcpy == two.memcpy[0] ? "it\\n" : "");'),
+}  # fmt: skip
+
+
+def used(tally: Tally, folder: pathlib.Path) -> None:
+    """A function that a sheet forbids may not be named in any way, and another thing may have its name. One that a sheet requires has to be the
+    library's."""
+    bench = Bench(folder / "used")
+    bench.write("it.txt", "it\n")
+    requires = {"sets.c": ('__asm__(".set bsp_put, 5");', 'puts("it");')}
+    for name, (front, text) in {**USES, **HARMLESS, **requires}.items():
+        bench.write(name, PROGRAM % (front, text))
+    none: Dict[str, Tuple[str, str]] = {}
+    for rule, evil, good in (('forbid = ["puts", "memcpy"]', USES, HARMLESS), ('require = ["bsp_put"]', requires, none)):
+        bench.write("sheet.toml", f'nodes = [1]\nexpected = "it.txt"\n{rule}\n')
+        done = bench.run("sheet.toml", *{**evil, **good}, words=["-o", "m.csv"])
+        found = {it["hand-in"]: it for it in bench.rows("m.csv")} if done.returncode != NOT_MARKED else {}
+        for name in {**evil, **good}:
+            row = found.get(name, {"verdict": done.stderr})
+            tally.expect(f"{name} by {rule}", row["verdict"] == ("not allowed" if name in evil else "right"), row)
 
 
 def replaced(tally: Tally, folder: pathlib.Path) -> None:
@@ -621,6 +659,7 @@ def parts(tally: Tally, folder: pathlib.Path) -> List[Part]:
         Part("names of hand-ins", lambda: names(tally, folder), wanted),
         Part("calls that are hidden", lambda: hidden(tally, folder), wanted),
         Part("calls that are replaced", lambda: replaced(tally, folder), wanted),
+        Part("names of functions", lambda: used(tally, folder), wanted),
         Part("warnings that are hidden", lambda: hides(tally, folder), wanted),
         Part("texts without an end", lambda: endless(tally, folder), wanted),
         Part("commands that make a run again", lambda: repeated(tally, folder), wanted),

@@ -268,12 +268,14 @@ USES = {
     "alias.c": ('static int print(const char *) __attribute__((weakref("puts")));', UNPLAIN % 'print("it");'),
     "assembly.c": ("", UNPLAIN % '__asm__("call pu" "ts");'),
     "in_macro.c": ("#define PRINT(it) __asm__(\"call \" #it)", UNPLAIN % "PRINT(puts);"), "table.c": ('__asm__(".word puts");', ""),
+    "pasted_own.c": ("#define TWO(a, b) a %:%: b", UNPLAIN % 'TWO(__builtin_, puts)("it");'),
     "inline.c": ("extern inline __attribute__((gnu_inline)) int puts(const char *it) { return printf(\"%s\\n\", it); }", UNPLAIN % '(&puts)("it");'),
     "array.c": ("extern char array[] __asm__(\"puts\");", UNPLAIN % '((int (*)(const char *))array)("it");'),
 }  # fmt: skip
 HARMLESS = {
     "member.c": (STRUCTURES, '*at = one; printf(two.puts ? "it\\n" : "");'), "local.c": ("", 'int puts = 1; printf((puts) ? "it\\n" : "");'),
     "counter.c": ("", '__asm__ volatile("li a0, 1" : : : "a0"); int puts = "puts"[0]; printf(puts ? "it\\n" : "");'),
+    "pastes.c": ("#define TWO(a, b) a##b", 'int TWO(pu, ts) = 1; TWO(print, f)(TWO(put, s) ? "it\\n" : "");'),
     "unused.c": ("#define PRINT(it) puts(it)\nstatic inline int unused(void) { return PRINT(\"no\"); }", 'printf("it\\n");'),
     "variable.c": (f"static int memcpy = 1; {STRUCTURES}", '*at = one; printf(memcpy == two.memcpy[0] ? "it\\n" : "");'),
 }  # fmt: skip

@@ -168,11 +168,10 @@ class Trial:
         if not self.plan.calls:
             self.compile([*self.compiler(defines, self.name, *linking), "-lm"], target, number)
             return target
-        part, printed = target.with_suffix(".o"), target.with_suffix(".cgraph")
-        called = self.unreplaced(defines, part, printed)
-        printing = f"{called_names.PRINTING}{printed.name}"
-        if self.compile(self.compiler(defines, self.name, "-c", "-o", part.name, "-g", printing), part, number):
-            self.find_calls(called | called_names.of_object(part, printed, self.decoded))
+        part = target.with_suffix(".o")
+        called = self.unreplaced(defines, part)
+        if self.compile(self.compiler(defines, self.name, "-c", "-o", part.name, "-g", *called_names.printing(part)), part, number):
+            self.find_calls(called | self.names_of(part))
             self.compile([*self.compiler((), part.name, *linking), "-lm"], target, number)
         return target
 
@@ -217,18 +216,17 @@ class Trial:
         constants = [f"-D{name}={value}" for name, value in defines]
         return [emulator.program("bspcc"), *options, *warnings, "-fdiagnostics-color=never", *constants, source]
 
-    def unreplaced(self, defines: Tuple[Tuple[str, str], ...], part: pathlib.Path, printed: pathlib.Path) -> Set[str]:
+    def unreplaced(self, defines: Tuple[Tuple[str, str], ...], part: pathlib.Path) -> Set[str]:
         """The names in an object in which GCC has replaced no call. It is written before the object that is linked, under the same name, and
         removed, so that no text can ask for a file to learn for which of the two it is compiled. Some right texts are compiled only where GCC
         knows what a function computes, as for the first value of a variable: then these are the names that the text calls."""
         # The headers of C++ call such names themselves, as __builtin_strlen.
         known = [it for it in self.plan.calls if it.isidentifier() and self.name.endswith(".c")]
-        options = ("-c", "-o", part.name, f"{called_names.PRINTING}{printed.name}", *UNREPLACED, *(f"-D__builtin_{it}={it}" for it in known))
+        options = ("-c", "-o", part.name, *called_names.printing(part), *UNREPLACED, *(f"-D__builtin_{it}={it}" for it in known))
         ran = bounded_run.run(self.compiler(defines, self.name, *options), COMPILER_SECONDS, MOST_COMPILED, compiler_environment(self.folder))
         is_built = ran.how == bounded_run.ENDED and ran.status == 0 and part.is_file()
-        names = called_names.of_object(part, printed, self.decoded) if is_built else set()
-        for it in (part, printed):
-            it.unlink(missing_ok=True)
+        names = self.names_of(part) if is_built else set()
+        called_names.remove(part)
         if is_built:
             return names
         said = cut(ran.said.decode(errors="replace").splitlines())
@@ -236,10 +234,14 @@ class Trial:
         text = called_names.bare_text(self.decoded)
         return {it for it in self.plan.calls if re.search(rf"\b(?:__builtin_)?{re.escape(it)}\s*\(", text)}
 
+    def names_of(self, part: pathlib.Path) -> Set[str]:
+        """Those calls that the sheet names which the hand-in makes in an object."""
+        return called_names.of_object(part, self.decoded, self.plan.calls, is_classes=not self.name.endswith(".c"))
+
     def find_calls(self, called: Set[str]) -> None:
         """Which of the calls that the sheet names the hand-in makes, each with its line, or 0 if the text does not have it."""
         text = called_names.bare_text(self.decoded)
-        for name in called.intersection(self.plan.calls):
+        for name in called:
             found = re.search(rf"\b(?:__builtin_)?{re.escape(name)}\b", text)
             self.found.calls[name] = text.count("\n", 0, found.start()) + 1 if found else 0
 

@@ -275,6 +275,7 @@ USES = {
 HARMLESS = {
     "member.c": (STRUCTURES, '*at = one; printf(two.puts ? "it\\n" : "");'), "local.c": ("", 'int puts = 1; printf((puts) ? "it\\n" : "");'),
     "counter.c": ("", '__asm__ volatile("li a0, 1" : : : "a0"); int puts = "puts"[0]; printf(puts ? "it\\n" : "");'),
+    "initial.c": ("", 'int it[400] = {1, 2, 3}; bsp_push_reg(it, sizeof it); bsp_sync(); printf(it[bsp_pid()] ? "it\\n" : "");'),
     "pastes.c": ("#define TWO(a, b) a##b", 'int TWO(pu, ts) = 1; TWO(print, f)(TWO(put, s) ? "it\\n" : "");'),
     "unused.c": ("#define PRINT(it) puts(it)\nstatic inline int unused(void) { return PRINT(\"no\"); }", 'printf("it\\n");'),
     "variable.c": (f"static int memcpy = 1; {STRUCTURES}", '*at = one; printf(memcpy == two.memcpy[0] ? "it\\n" : "");'),
@@ -286,11 +287,12 @@ def used(tally: Tally, folder: pathlib.Path) -> None:
     library's."""
     bench = Bench(folder / "used")
     bench.write("it.txt", "it\n")
-    requires = {"sets.c": ('__asm__(".set bsp_put, 5");', 'puts("it");')}
+    again = '\n#ifdef _MACHINE_MATH_H_\nbsp_put(0, "", NULL, 0, 0);\n#endif\nputs("it");'
+    requires = {"sets.c": ('__asm__(".set bsp_put, 5");', 'puts("it");'), "compiled_again.c": ("", again)}
     for name, (front, text) in {**USES, **HARMLESS, **requires}.items():
         bench.write(name, PROGRAM % (front, text))
     none: Dict[str, Tuple[str, str]] = {}
-    for rule, evil, good in (('forbid = ["puts", "memcpy"]', USES, HARMLESS), ('require = ["bsp_put"]', requires, none)):
+    for rule, evil, good in (('forbid = ["puts", "memcpy", "memset"]', USES, HARMLESS), ('require = ["bsp_put"]', requires, none)):
         bench.write("sheet.toml", f'nodes = [1]\nexpected = "it.txt"\n{rule}\n')
         done = bench.run("sheet.toml", *{**evil, **good}, words=["-o", "m.csv"])
         found = {it["hand-in"]: it for it in bench.rows("m.csv")} if done.returncode != NOT_MARKED else {}

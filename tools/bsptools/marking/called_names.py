@@ -71,6 +71,12 @@ def named_by_text(printed: str) -> Set[str]:
     return found
 
 
+def is_called(part: pathlib.Path, name: str) -> bool:
+    """Whether a function of a text calls this one, before GCC replaces such a call."""
+    path = part.with_suffix(".functions")
+    return path.exists() and re.search(rf"\b(?:__builtin_)?{re.escape(name)} \(", bare_text(_printed(path))) is not None
+
+
 def _printed(path: pathlib.Path) -> str:
     """What GCC has printed."""
     return content_of(path, MOST_PRINTED).decode(errors="replace")

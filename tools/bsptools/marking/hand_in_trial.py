@@ -171,7 +171,7 @@ class Trial:
         part = target.with_suffix(".o")
         called = self.unreplaced(defines, part)
         if self.compile(self.compiler(defines, self.name, "-c", "-o", part.name, "-g", *called_names.printing(part)), part, number):
-            self.find_calls(called | self.names_of(part))
+            self.find_calls(part, called)
             self.compile([*self.compiler((), part.name, *linking), "-lm"], target, number)
         return target
 
@@ -238,12 +238,15 @@ class Trial:
         """Those calls that the sheet names which the hand-in makes in an object."""
         return called_names.of_object(part, self.decoded, self.plan.calls, is_classes=not self.name.endswith(".c"))
 
-    def find_calls(self, called: Set[str]) -> None:
-        """Which of the calls that the sheet names the hand-in makes, each with its line, or 0 if the text does not have it."""
-        text = called_names.bare_text(self.decoded)
-        for name in called:
+    def find_calls(self, part: pathlib.Path, called: Set[str]) -> None:
+        """Which of the calls that the sheet names the hand-in makes, each with its line, or 0 if the text does not have it. Those that it makes
+        only where GCC replaces nothing are not in what runs, unless GCC has replaced them."""
+        text, linked = called_names.bare_text(self.decoded), self.names_of(part)
+        for name in called | linked:
             found = re.search(rf"\b(?:__builtin_)?{re.escape(name)}\b", text)
             self.found.calls[name] = text.count("\n", 0, found.start()) + 1 if found else 0
+            if name in linked or called_names.is_called(part, name):
+                self.found.made.append(name)
 
     @property
     def decoded(self) -> str:

@@ -257,6 +257,48 @@ CALLS = {
 # First values that are constants only where GCC knows what a function computes; and a name of bspcheck's where GCC replaces nothing.
 LEARNS = "#ifdef __builtin_memcpy\n#define COPY(to, from, size) memmove(to, from, size)\n#else\n#define COPY memcpy\n#endif"
 FIRST = {"learns.c": LEARNS, "first_value.c": "static double FIRST = fabs(-1.0);", "in_comment.c": "static double FIRST = sqrt(4.0);"}
+# Ways to a function without a plain call, where the text is not compiled for bspcheck alone; and uses of its name for something else, where GCC
+# calls the function by itself. Each with what is in front of main, and in it.
+UNPLAIN, STRUCTURES = "\n#ifndef _MACHINE_MATH_H_\n%s\n#endif\n", "struct { char puts, memcpy[999]; } one = {1, {1}}, two, *at = &two;"
+USES = {
+    "parentheses.c": ("", UNPLAIN % '(puts)("it");'), "pointer.c": ("int (*print)(const char *) = puts;", UNPLAIN % 'print("it");'),
+    "pasted.c": ("#define TWO(a, b) a##b", UNPLAIN % 'TWO(pu, ts)("it");'), "continued.c": ("", UNPLAIN % '__builtin_pu\\\nts("it");'),
+    "label.c": ('int print(const char *) __asm__("puts");', UNPLAIN % 'print("it");'),
+    "other_name.c": ("#pragma redefine_extname print puts\nint print(const char *);", UNPLAIN % 'print("it");'),
+    "alias.c": ('static int print(const char *) __attribute__((weakref("puts")));', UNPLAIN % 'print("it");'),
+    "assembly.c": ("", UNPLAIN % '__asm__("call pu" "ts");'),
+    "in_macro.c": ("#define PRINT(it) __asm__(\"call \" #it)", UNPLAIN % "PRINT(puts);"), "table.c": ('__asm__(".word puts");', ""),
+    "pasted_own.c": ("#define TWO(a, b) a %:%: b", UNPLAIN % 'TWO(__builtin_, puts)("it");'),
+    "inline.c": ("extern inline __attribute__((gnu_inline)) int puts(const char *it) { return printf(\"%s\\n\", it); }", UNPLAIN % '(&puts)("it");'),
+    "array.c": ("extern char array[] __asm__(\"puts\");", UNPLAIN % '((int (*)(const char *))array)("it");'),
+}  # fmt: skip
+HARMLESS = {
+    "member.c": (STRUCTURES, '*at = one; printf(two.puts ? "it\\n" : "");'), "local.c": ("", 'int puts = 1; printf((puts) ? "it\\n" : "");'),
+    "counter.c": ("", '__asm__ volatile("li a0, 1" : : : "a0"); int puts = "puts"[0]; printf(puts ? "it\\n" : "");'),
+    "initial.c": ("", 'int it[400] = {1, 2, 3}; bsp_push_reg(it, sizeof it); bsp_sync(); printf(it[bsp_pid()] ? "it\\n" : "");'),
+    "pastes.c": ("#define TWO(a, b) a##b", 'int TWO(pu, ts) = 1; TWO(print, f)(TWO(put, s) ? "it\\n" : "");'),
+    "unused.c": ("#define PRINT(it) puts(it)\nstatic inline int unused(void) { return PRINT(\"no\"); }", 'printf("it\\n");'),
+    "variable.c": (f"static int memcpy = 1; {STRUCTURES}", '*at = one; printf(memcpy == two.memcpy[0] ? "it\\n" : "");'),
+}  # fmt: skip
+
+
+def used(tally: Tally, folder: pathlib.Path) -> None:
+    """A function that a sheet forbids may not be named in any way, and another thing may have its name. One that a sheet requires has to be the
+    library's."""
+    bench = Bench(folder / "used")
+    bench.write("it.txt", "it\n")
+    again = '\n#ifdef _MACHINE_MATH_H_\nbsp_put(0, "", NULL, 0, 0);\n#endif\nputs("it");'
+    requires = {"sets.c": ('__asm__(".set bsp_put, 5");', 'puts("it");'), "compiled_again.c": ("", again)}
+    for name, (front, text) in {**USES, **HARMLESS, **requires}.items():
+        bench.write(name, PROGRAM % (front, text))
+    none: Dict[str, Tuple[str, str]] = {}
+    for rule, evil, good in (('forbid = ["puts", "memcpy", "memset"]', USES, HARMLESS), ('require = ["bsp_put"]', requires, none)):
+        bench.write("sheet.toml", f'nodes = [1]\nexpected = "it.txt"\n{rule}\n')
+        done = bench.run("sheet.toml", *{**evil, **good}, words=["-o", "m.csv"])
+        found = {it["hand-in"]: it for it in bench.rows("m.csv")} if done.returncode != NOT_MARKED else {}
+        for name in {**evil, **good}:
+            row = found.get(name, {"verdict": done.stderr})
+            tally.expect(f"{name} by {rule}", row["verdict"] == ("not allowed" if name in evil else "right"), row)
 
 
 def replaced(tally: Tally, folder: pathlib.Path) -> None:
@@ -314,8 +356,39 @@ TOLD_HIDDEN = {
     "name.c": (f'#line 1 "{"a" * 5000}"\n{UNUSED}', "unused variable 'unused'"),
     "pedantic.c": (f"#define F{'x' * 300}(a...)\n" * 900 + "# 1 \"x.c\" 3\n" + UNUSED, "it could not be checked whether it hides warnings: the compiler prints too much"),
 }  # fmt: skip
+# Macros of the library in all places: in others, in their arguments, over lines, and in conditions.
+MACROS = """#include <assert.h>
+#include <ctype.h>
+#include <errno.h>
+#include <limits.h>
+#include <math.h>
+#include <stdbool.h>
+#include <stdint.h>
+#include <stdlib.h>
+#define MAX(a, b) ((a) > (b) ? (a) : (b))
+#define BIGGEST INT32_MAX
+#define CALL(f, ...) f(__VA_ARGS__)
+#define TEXT(x) #x
+#if INT_MAX > LONG_MIN && defined NULL
+#define ZERO NULL
+#endif
+static int32_t least = INT32_MIN, most = MAX(BIGGEST, CALL(MAX, EOF,
+    INT_MIN
+));
+static bool is_all(const char *text, double x) { return text == ZERO && isnan(x) == false && x < INFINITY && isdigit('1')
+    && errno != ERANGE; }"""
+ALL_MACROS = """
+    NULL
+    == ZERO ? (void)errno : abort();
+    assert(MAX(most,
+        least) == INT32_MAX && CHAR_BIT == 8);
+    if (is_all(NULL, HUGE_VAL > 0 ? M_PI : 0)) CALL(putchar, EOF < 0 ? 'i' : UCHAR_MAX);
+    putchar('t'); fputs(TEXT(
+        ) "\\n", stdout); if (errno) exit(EXIT_FAILURE);"""
 SHOWN = {
     "plain.c": PROGRAM % ("", 'puts("it");'),
+    "macros.c": PROGRAM % (MACROS, ALL_MACROS),
+    "macros.cpp": PROGRAM.replace("#include <bsp.h>", 'extern "C" {\n#include <bsp.h>\n}') % (MACROS, ALL_MACROS),
     "pushes.c": '#pragma GCC diagnostic push\n#pragma GCC diagnostic error "-Wformat"\n#pragma GCC diagnostic pop\n' + PROGRAM % ("", 'puts("it");'),
     "library.cpp": "#include <algorithm>\n#include <memory>\n#include <string>\n" + PROGRAM.replace("#include <bsp.h>", 'extern "C" {\n#include <bsp.h>\n}')
     % ("", f"int n = 1'000; const char *raw = R\"x(\n{IGNORES})x\"; puts(n == 1000 && raw ? \"it\" : \"no\");"),
@@ -590,6 +663,7 @@ def parts(tally: Tally, folder: pathlib.Path) -> List[Part]:
         Part("names of hand-ins", lambda: names(tally, folder), wanted),
         Part("calls that are hidden", lambda: hidden(tally, folder), wanted),
         Part("calls that are replaced", lambda: replaced(tally, folder), wanted),
+        Part("names of functions", lambda: used(tally, folder), wanted),
         Part("warnings that are hidden", lambda: hides(tally, folder), wanted),
         Part("texts without an end", lambda: endless(tally, folder), wanted),
         Part("commands that make a run again", lambda: repeated(tally, folder), wanted),

@@ -20,7 +20,6 @@ from ..counts.h_relations import Traffic
 from ..counts.line_costs import Work
 from ..diagnosis.stop_reasons import Why
 from ..diagnosis.superstep_ends import END, ends
-from ..files import content_of
 from ..framed.environment_calls import Tracer
 from ..outputs import contested_bytes
 from ..outputs.library_notes import ABSENT, note_of
@@ -31,9 +30,8 @@ from ..portable.portability import verdict
 from ..portable.portability_findings import told_contested
 from ..portable.trial_builds import Builds
 from ..prepare.job import Job, prepared
-from ..program import elf
 from ..refusals import Refused, counted
-from . import bounded_run, hidden_warnings
+from . import bounded_run, called_names, hidden_warnings
 from .bounded_run import Ran
 from .evidence import BROKEN, LATE, LONG, MOST_SHOWN, WARNS, WELL, Ended, Evidence, cut, of_marking
 from .sheet import Bound
@@ -69,17 +67,9 @@ LACKS = (errno.ENOSPC, errno.EDQUOT, errno.ENOMEM, errno.EAGAIN, errno.EMFILE, e
 SLOW = "the compiler took too long"
 UNTRIED = "not portable: it fails if it is compiled for this trial, with the same constants, input and arguments"
 SAFE = re.compile(r"[A-Za-z_][\w.-]{0,80}\.(?:c|cc|cpp|cxx)", re.ASCII)
-# A piece without an end matches, too: else each of very many would be looked through up to the end of the text.
-COMMENTS = re.compile(r"//(?:\\\n|[^\n])*|/\*.*?(?:\*/|\Z)|\"(?:\\.|[^\"\\\n])*\"?|'(?:\\.|[^'\\\n])*'?", re.DOTALL)
 # GCC replaces a call that it knows by another, such as printf by puts, and a loop by memset. The C library's header machine/math.h replaces
 # fabs by an instruction. With these options nothing is replaced, and no warning is printed.
 UNREPLACED = ("-fno-builtin", "-fno-tree-loop-distribute-patterns", "-D_MACHINE_MATH_H_", "-w")
-# What GCC may call where a text does not, so a name of these in the linked object says nothing of the text.
-REPLACING = frozenset(
-    "puts putchar fputs fputc putc fwrite memcpy memmove memset memcmp strlen strcpy stpcpy strncpy strcat strchr strcmp calloc sqrt sqrtf exp2 exp2f".split()
-)
-# What the linker puts in front of the name of a function of the library that bspcc has wrapped.
-OTHER_NAME = re.compile("^__(?:wrap|real)_")
 
 
 @dataclass(frozen=True)
@@ -180,7 +170,7 @@ class Trial:
             return target
         part = target.with_suffix(".o")
         called = self.unreplaced(defines, part)
-        if self.compile(self.compiler(defines, self.name, "-c", "-o", part.name, "-g"), part, number):
+        if self.compile(self.compiler(defines, self.name, "-c", "-o", part.name, "-g", *called_names.printing(part)), part, number):
             self.find_calls(part, called)
             self.compile([*self.compiler((), part.name, *linking), "-lm"], target, number)
         return target
@@ -232,36 +222,36 @@ class Trial:
         knows what a function computes, as for the first value of a variable: then these are the names that the text calls."""
         # The headers of C++ call such names themselves, as __builtin_strlen.
         known = [it for it in self.plan.calls if it.isidentifier() and self.name.endswith(".c")]
-        words = self.compiler(defines, self.name, "-c", "-o", part.name, *UNREPLACED, *(f"-D__builtin_{it}={it}" for it in known))
-        ran = bounded_run.run(words, COMPILER_SECONDS, MOST_COMPILED, compiler_environment(self.folder))
-        if ran.how == bounded_run.ENDED and ran.status == 0 and part.is_file():
-            names = names_of(part)
-            part.unlink()
+        options = ("-c", "-o", part.name, *called_names.printing(part), *UNREPLACED, *(f"-D__builtin_{it}={it}" for it in known))
+        ran = bounded_run.run(self.compiler(defines, self.name, *options), COMPILER_SECONDS, MOST_COMPILED, compiler_environment(self.folder))
+        is_built = ran.how == bounded_run.ENDED and ran.status == 0 and part.is_file()
+        names = self.names_of(part) if is_built else set()
+        called_names.remove(part)
+        if is_built:
             return names
-        part.unlink(missing_ok=True)
         said = cut(ran.said.decode(errors="replace").splitlines())
         self.found.lack = self.found.lack or (SLOW if ran.how == bounded_run.LATE else next(filter(self.is_lack, said), ""))
-        text = self.bare_text()
+        text = called_names.bare_text(self.decoded)
         return {it for it in self.plan.calls if re.search(rf"\b(?:__builtin_)?{re.escape(it)}\s*\(", text)}
 
-    def find_calls(self, part: pathlib.Path, called: Set[str]) -> None:
-        """Which of the calls that the sheet names the hand-in makes, each with its line, or 0 if the text does not have it: by the object that
-        is linked, and by the names that are called where GCC replaces nothing. A name in the object that GCC may have put there counts if the text
-        calls it, or has it in a line of the preprocessor: a text can learn that it is compiled once more, and call another function there."""
-        linked = names_of(part)
-        if not linked:
-            raise Refused(f"{part.name} has no names of functions")
-        text = self.bare_text()
-        for name in self.plan.calls:
-            word = rf"\b(?:__builtin_)?{re.escape(name)}\b"
-            is_spelled = re.search(rf"(?m){word}\s*\(|^[ \t]*#.*{word}", text) is not None
-            if name in called or name in linked and (is_spelled or name not in REPLACING):
-                found = re.search(word, text)
-                self.found.calls[name] = text.count("\n", 0, found.start()) + 1 if found else 0
+    def names_of(self, part: pathlib.Path) -> Set[str]:
+        """Those calls that the sheet names which the hand-in makes in an object."""
+        return called_names.of_object(part, self.decoded, self.plan.calls, is_classes=not self.name.endswith(".c"))
 
-    def bare_text(self) -> str:
-        """The hand-in's text, with blanks for comments and strings."""
-        return COMMENTS.sub(lambda it: re.sub(r"[^\n]", " ", it[0]), self.text.decode(errors="replace"))
+    def find_calls(self, part: pathlib.Path, called: Set[str]) -> None:
+        """Which of the calls that the sheet names the hand-in makes, each with its line, or 0 if the text does not have it. Those that it makes
+        only where GCC replaces nothing are not in what runs, unless GCC has replaced them."""
+        text, linked = called_names.bare_text(self.decoded), self.names_of(part)
+        for name in called | linked:
+            found = re.search(rf"\b(?:__builtin_)?{re.escape(name)}\b", text)
+            self.found.calls[name] = text.count("\n", 0, found.start()) + 1 if found else 0
+            if name in linked or called_names.is_called(part, name):
+                self.found.made.append(name)
+
+    @property
+    def decoded(self) -> str:
+        """The hand-in's text."""
+        return self.text.decode(errors="replace")
 
     # Runs.
 
@@ -419,11 +409,6 @@ def absent_files(pieces: Sequence[Tuple[int, bytes]]) -> List[str]:
     return [f"{it} was not found: the sheet gives no file of this name" for it in list(names)[:MOST_ABSENT]]
 
 
-def names_of(part: pathlib.Path) -> Set[str]:
-    """The names in an object, as the text has them."""
-    return {OTHER_NAME.sub("", it) for it in elf.names(content_of(part, limits.MOST_PROGRAM))}
-
-
 def last_name(path: str) -> str:
     """The last name of a path."""
     return pathlib.PurePath(path).name
@@ -459,7 +444,7 @@ def refusal(text: bytes) -> str:
     """Why a hand-in is no program, if it is none."""
     if len(text) > MOST_TEXT:
         return f"the file has more than {MOST_TEXT} bytes, the limit for a program"
-    if not COMMENTS.sub("", text.decode(errors="replace")).strip():
+    if not called_names.COMMENTS.sub("", text.decode(errors="replace")).strip():
         return "the file is empty"
     if b"\0" in text:
         return "the file is not text: hand in the program's source"

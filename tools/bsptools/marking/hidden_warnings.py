@@ -10,8 +10,10 @@ from typing import List, NamedTuple
 from . import bounded_run
 from .bounded_run import Ran
 
-# Options for the compiler. GCC copies the places that a text gives itself, and only with this option does it say which the text gives.
-OPTIONS = ("-E", "-Wpedantic")
+# Options for the compiler. GCC copies the places that a text gives itself, and only with the second does it say which the text gives. With the
+# third, what comes of a macro is of the file that uses it. Otherwise GCC gives places of its own, as places of the library, to the text of
+# each macro of the library, such as NULL.
+OPTIONS = ("-E", "-Wpedantic", "-ftrack-macro-expansion=0")
 # Bytes of a text whose macros are replaced. The whole library of C++ has 4 MB.
 MOST_TEXT = 1 << 24
 GIVEN_PLACE = re.compile(rb":(\d+):\d+: warning: style of line directive")

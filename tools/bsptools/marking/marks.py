@@ -135,7 +135,7 @@ class Marker:
             if it in calls:
                 check.fault = f"{it} is called{f' in line {calls[it]}' if calls[it] else ''}, but this sheet forbids it"
                 return check
-        missing = [it for it in sheet.require if it not in calls]
+        missing = [it for it in sheet.require if it not in self.evidence.made]
         check.fault = f"{missing[0]} is not called, but this sheet requires it" if missing else ""
         return check
 

@@ -28,6 +28,8 @@ ARCHITECTURE = re.compile(rb"(?<![0-9a-z_])rv32([0-9a-z_]+)\0")
 VERSIONS = re.compile(r"(?<!\d)\d+p\d+")
 # A section of symbols, the bytes of one of them, of a name at the most, and of all names: each may be the end of another one.
 SYMBOLS, SYMBOL_BYTES, SECTION_BYTES, MOST_NAME, MOST_NAMES = 2, 16, 40, 1 << 12, 1 << 26
+# The number of the section of a symbol that another file defines.
+UNDEFINED = 0
 # Sections that name a file with more for debuggers; and the number of a section that the header has no room for.
 LINKS, MANY = (b".gnu_debuglink\0", b".gnu_debugaltlink\0"), 0xFFFF
 FUNCTION, OBJECT = "STT_FUNC", "STT_OBJECT"
@@ -121,8 +123,18 @@ def names(content: bytes) -> set[str]:
     return set(symbols(content))
 
 
+def names_elsewhere(content: bytes) -> set[str]:
+    """The names of an ELF file's symbols that it does not define itself, but takes from other files."""
+    return {name for name, _, section in _symbols(content) if section == UNDEFINED}
+
+
 def symbols(content: bytes) -> dict[str, int]:
     """The values of an ELF file's symbols by their names; none of a file that has none, is broken, or has too many for its bytes."""
+    return {name: value for name, value, _ in _symbols(content)}
+
+
+def _symbols(content: bytes) -> list[tuple[str, int, int]]:
+    """The same symbols, each with its name, its value and the number of its section."""
     with contextlib.suppress(struct.error, IndexError):
         (start,) = struct.unpack_from("<I", content, 32)
         size, count = struct.unpack_from("<HH", content, 46)
@@ -133,17 +145,17 @@ def symbols(content: bytes) -> dict[str, int]:
         if table is not None:
             _, _, _, _, begin, length, link, *_ = table
             texts, room = struct.unpack_from("<10I", content, start + link * size)[4:6]
-            text, left, found = content[texts : texts + room], MOST_NAMES, {}
+            text, left, found = content[texts : texts + room], MOST_NAMES, []
             for place in range(begin, begin + length, SYMBOL_BYTES):
-                at, value = struct.unpack_from("<2I", content, place)
+                at, value, _, _, _, section = struct.unpack_from("<3I2BH", content, place)
                 end = text.find(b"\0", at, at + MOST_NAME)
                 left -= max(end - at, 0)
                 if left < 0:
-                    return {}
+                    return []
                 if end >= 0:
-                    found[text[at:end].decode(errors="replace")] = value
+                    found.append((text[at:end].decode(errors="replace"), value, section))
             return found
-    return {}
+    return []
 
 
 def load() -> None:

@@ -149,6 +149,7 @@ def parts(make: Parts) -> List[Part]:
         make.part("odd names of hosts and folders", hostile),
         make.part("runs that do not end", ended),
         make.part("a sweep of a program in C", sources, tools=COMPILER),
+        make.part("lists in several parts", repeated, tools=COMPILER),
         make.part("files that nobody gave a sweep", sought, tools=COMPILER),
         make.part("what is edited while a sweep goes on", edited, tools=COMPILER),
         make.part("runs that cannot be made", missing),
@@ -738,7 +739,7 @@ def ended(check: Check) -> None:
     told = "bspsweep: 1 of 2 runs did not end well: " + words[-1] + ", 2 nodes: rank 1 stopped: aborted\n"
     right = (done.returncode, outcomes) == (2, ["ended", "rank 1 stopped: aborted"]) and done.stderr.endswith(told)
     check.expect("runs that do not end", right, done)
-    done = check.tool("bspsweep", *words, "--nodes", "3,2,1", "--check")
+    done = check.tool("bspsweep", "--nodes", "3", *words, "--check")
     told = "2 of 3 runs did not end well, the first one " + words[-1] + ", 3 nodes: rank 1 stopped: aborted\n"
     check.expect("runs that do not end, checked", done.returncode == 2 and told in done.stderr and "gave the same" in done.stderr, done)
     (check.folder / "bad.elf").write_bytes(b"\x7fELF" + bytes(60))
@@ -748,6 +749,17 @@ def ended(check: Check) -> None:
         check.expect("a run that cannot be made", right and "1 of 1 run done" in done.stderr, done.stdout + done.stderr)
     done = check.tool("bspsweep", *words, "bad.elf")
     check.expect("both of them", done.returncode == 1 and "1 of 2 runs did not end well" in done.stderr, done)
+
+
+def repeated(check: Check) -> None:
+    """An option with a list that is given again adds to the list, and what is given twice is one point."""
+    (check.folder / "parts.c").write_text(SOURCE)
+    begin = ["--engine", "plain", "--folder", "parts"]
+    several = ["--define", "N=10", "--define", "N=20,10", "-n", "2", "-n", "4,2", "--g", "1", "--g", "2", "--l", "3", "--l", "3", "--prices", "4:5"]
+    several += ["--prices", "6:7,4:5", "--machine", "t3e", "--machine", "t3e", "--args", "9", "--args", "9", "parts.c", "parts.c"]
+    whole = ["--define", "N=10,20", "-n", "2,4", "--g", "1,2", "--l", "3", "--prices", "4:5,6:7", "--machine", "t3e", "--args", "9", "parts.c"]
+    tables = [check.tool("bspsweep", *begin, *words) for words in (several, whole)]
+    check.expect("lists in several parts", tables[0].stdout == tables[1].stdout != "", tables[0].stdout[:200] + tables[0].stderr)
 
 
 def sources(check: Check) -> None:

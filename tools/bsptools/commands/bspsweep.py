@@ -13,7 +13,7 @@ from .. import children, emulator, files, limits, sealed_results
 from ..files import content_of
 from ..limits import MOST_PROGRAM, MOST_TABLE
 from ..machines import Family, family_named
-from ..options import COMPILING, P, Parser, listed, named, pair
+from ..options import COMPILING, Joined, P, Parser, listed, named, pair
 from ..prepare.clock_rate import has_clock
 from ..prices import Exact, G, L
 from ..prices import listed as prices_listed
@@ -66,7 +66,15 @@ def constant(text: str) -> tuple[str, list[str]]:
         raise argparse.ArgumentTypeError(f"{text!r}: {name!r} is not the name of a constant")
     if name in result_table.COLUMNS:
         raise argparse.ArgumentTypeError(f"{text!r}: {name} is a column of the table already: choose another name for the constant")
-    return name, list(dict.fromkeys(values.split(",")))
+    return name, values.split(",")
+
+
+def constants(given: list[tuple[str, list[str]]]) -> list[tuple[str, list[str]]]:
+    """The constants, each once, with all values that were given for it."""
+    found: dict[str, list[str]] = {}
+    for name, values in given:
+        found.setdefault(name, []).extend(values)
+    return [(name, list(dict.fromkeys(values))) for name, values in found.items()]
 
 
 def arguments(words: list[str]) -> argparse.Namespace:
@@ -82,11 +90,11 @@ def arguments(words: list[str]) -> argparse.Namespace:
     )
     add = parser.add_argument
     parser.section("settings")
-    add("-n", "--nodes", type=listed(P), metavar="LIST", help="numbers of nodes, as 1,2,4,8 or 1:8; default: those of --machine, or 1")
-    add("--g", type=prices_listed(G), metavar="LIST", help="prices of a byte of h, as 4, 3.875 or 31/8; default 1")
-    add("--l", type=prices_listed(L), metavar="LIST", help="prices of the end of a superstep; default 0")
-    add("--prices", type=pairs, metavar="G:L,..", help="pairs of prices, in addition to all combinations of --g and --l")
-    add("--machine", type=families, default=[], metavar="LIST", help="prices of machines, in addition to --g and --l: t3e takes the prices for each"
+    add("-n", "--nodes", type=listed(P), action=Joined, metavar="LIST", help="numbers of nodes, as 1,2,4,8 or 1:8; default: those of --machine, or 1")
+    add("--g", type=prices_listed(G), action=Joined, metavar="LIST", help="prices of a byte of h, as 4, 3.875 or 31/8; default 1")
+    add("--l", type=prices_listed(L), action=Joined, metavar="LIST", help="prices of the end of a superstep; default 0")
+    add("--prices", type=pairs, action=Joined, metavar="G:L,..", help="pairs of prices, in addition to all combinations of --g and --l")
+    add("--machine", type=families, action=Joined, default=[], metavar="LIST", help="prices of machines, in addition to --g and --l: t3e takes the prices for each"
         " number of nodes, and t3e-8 those for 8 nodes. t3e-2, t3e-4, .., t3e-64 are from the literature, and bspprobe measures yours")  # fmt: skip
     add("--interpolate", choices=["linear"], help="interpolate prices of --machine between the numbers of nodes that were measured; the table"
         " says so")  # fmt: skip
@@ -108,12 +116,13 @@ def arguments(words: list[str]) -> argparse.Namespace:
         " slurm is sbatch on a cluster; auto, the default, is parallel if it is installed, and plain otherwise")  # fmt: skip
     parser.add_number("--jobs", what="the number of runs at a time", least=1, most=100_000, default=0, metavar="COUNT", help="runs at a"
         " time; default: the number of processors")  # fmt: skip
-    add("--hosts", type=hosts, default=(), metavar="H1,H2", help="hosts for GNU parallel, by ssh; they need this folder and the program at the same paths")
+    add("--hosts", type=hosts, action=Joined, default=(), metavar="H1,H2", help="hosts for GNU parallel, by ssh; they need this folder and the program at the same paths")
     add("--sbatch", type=parted, default="", metavar="OPTIONS", help="more options of sbatch, as '--partition=short --time=10'")
     add("--script", action="store_true", help="write the script for sbatch, print how to start it, and run nothing")
     add("--folder", default=".bspsweep", metavar="FOLDER", help="where to cache results; default .bspsweep")
     add("program", metavar="PROGRAM", nargs="*", help="a program to run")
     options = parser.parse_args(words)
+    options.define = constants(options.define)
     if options.again is not None and table_record.without_aside(words):
         parser.error(f"--again takes the sweep from {options.again}, without {shlex.join(table_record.without_aside(words))}")
     if options.again is None and not options.program:

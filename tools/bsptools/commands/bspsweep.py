@@ -4,6 +4,7 @@ from __future__ import annotations
 
 import argparse
 import contextlib
+import io
 import pathlib
 import re
 import shlex
@@ -318,15 +319,22 @@ def tell_again(before: table_record.Record, now: table_record.Record) -> bool:
     return is_same
 
 
+def recorded(words: list[str], path: str) -> argparse.Namespace:
+    """What the command of a record asks for, which is a table. With a help or a version the parser would end this, with status 0."""
+    with contextlib.suppress(SystemExit), contextlib.redirect_stdout(io.StringIO()):
+        options = arguments(words)
+        if options.again is None:
+            return options
+    raise table_record.no_record(path)
+
+
 def again(asked: argparse.Namespace) -> int:
     """Makes the table of a record once more, as the command line asks for it now."""
     before = table_record.read(asked.again)
     files.expect_ordinary(table_record.own_machines(before), asked.again)
     table_record.take_machines(before)
     words = before[table_record.COMMAND]
-    options = arguments(words)
-    if options.again is not None:
-        raise Refused(f"{asked.again} is not the record of a sweep")
+    options = recorded(words, asked.again)
     files.expect_ordinary([*options.program, *(options.input or []), *options.file], asked.again)
     for name in ("output", "folder", "engine", "jobs", "hosts", "sbatch", "check", "script"):
         setattr(options, name, getattr(asked, name))

@@ -13,7 +13,7 @@ from bsptools import children, files
 from bsptools.commands import bspplot, bspsweep
 from bsptools.plot import picture_options, sweep_table
 from bsptools.prices import spelled
-from bsptools.refusals import Refused
+from bsptools.refusals import Refused, printable
 from bsptools.sweep import result_table, table_record
 from bsptools.sweep.result_store import MAIN
 
@@ -75,6 +75,12 @@ def sweep(
     Returns
     -------
     Sweep
+
+    Warns
+    -----
+    UserWarning
+        If runs found no input or no file, or did something else by which their figures may not be those that you want; with what `bsprun`
+        says of the first of them. So it is if a program reads the clock.
 
     Raises
     ------
@@ -138,6 +144,7 @@ def made(words: List[str], executor: Optional[concurrent.futures.Executor]) -> S
     wrong = [*whole.unplaced, *result_table.failures(whole.places, whole.found)]
     if wrong:
         raise BspError("\n".join(wrong))
+    warn(whole.notes())
     table = result_table.table(whole.points, whole.found, [name for name, _ in options.define])
     return Sweep(table, table_record.made(options, words, whole.points, whole.store, table, whole.sought()))
 
@@ -219,9 +226,9 @@ class Sweep:
 
 
 def warn(notes: Iterable[str]) -> None:
-    """Tells what a picture leaves out, as of the line that called a method of a sweep."""
+    """Tells what the figures of runs rest on or a picture leaves out, as of the line that asked for a sweep or called a method of one."""
     for it in notes:
-        warnings.warn(it, stacklevel=4)
+        warnings.warn(printable(it), stacklevel=4)
 
 
 def figure_of(kind: str, words: List[str], table: str, notes: List[str]) -> Any:

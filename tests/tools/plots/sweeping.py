@@ -11,7 +11,6 @@ import shlex
 import shutil
 import signal
 import subprocess
-import sys
 import threading
 import time
 from fractions import Fraction
@@ -19,7 +18,7 @@ from typing import Any, Callable, Dict, List, Mapping, Optional, Sequence, Set
 
 import cluster
 from base import PARALLEL, REPO, Check, Parts
-from checks import COMPILER, SECONDS, Part
+from checks import COMPILER, Part
 
 from bsptools import sealed_results
 from bsptools.sweep.result_store import Place
@@ -111,6 +110,22 @@ int main(int argc, char **argv)
 }
 """
 
+# Reads a number from its input and from a file, and goes on without them.
+NEEDING = """\
+#include <bsp.h>
+#include <stdio.h>
+int main(void)
+{
+    int n = 0;
+    bsp_begin(bsp_nprocs());
+    scanf("%d", &n);
+    FILE *file = fopen("data.txt", "r");
+    if (file)
+        fscanf(file, "%d", &n);
+    bsp_end();
+    return 0;
+}
+"""
 # Works for as long as a file says, which bsprun gives by itself if it is here, and writes what it has read.
 SEEKING = """\
 #include <bsp.h>
@@ -151,6 +166,7 @@ def parts(make: Parts) -> List[Part]:
         make.part("a sweep of a program in C", sources, tools=COMPILER),
         make.part("lists in several parts", repeated, tools=COMPILER),
         make.part("files that nobody gave a sweep", sought, tools=COMPILER),
+        make.part("runs whose figures may be in doubt", doubts, tools=COMPILER),
         make.part("what is edited while a sweep goes on", edited, tools=COMPILER),
         make.part("runs that cannot be made", missing),
         make.part("programs that are not compiled", uncompiled, tools=COMPILER),
@@ -251,6 +267,25 @@ def sought(check: Check) -> None:
     found = work(BSPRUN_FLAGS="--no-files"), work()
     check.expect("options of bsprun in the environment", found[0] == found[1] > least + 1000, (found, least))
     check.expect("nothing is written beside the program", not (check.folder / "written.txt").exists(), "written.txt is there")
+
+
+def doubts(check: Check) -> None:
+    """What bsprun says of a run without its input or its file is told of all runs in a line, also where they are kept, and in Python; and
+    nothing is told of runs that have them."""
+    (check.folder / "needs.c").write_text(NEEDING)
+    (check.folder / "given").write_text("3\n")
+    words = ["--engine", "plain", "--folder", "doubts", "-n", "1,2", "needs.c"]
+    first = "the first one needs.c, 1 node: rank 0, superstep 0: "
+    told = [f"2 of 2 runs found no input, {first}a number is read, and the input is empty: give --input FILE"]
+    told += [f"2 of 2 runs did not find a file, {first}data.txt was not found: no file of this name was given, and none is in this folder"]
+    for name in ("made", "kept"):
+        done = check.tool("bspsweep", *words)
+        check.expect(f"{name} runs without input", all(f"bspsweep: note: {it}" in done.stderr for it in told) and done.returncode == 0, done)
+    done = check.python("import bspemu\nbspemu.sweep('needs.c', nodes=[1, 2], folder='doubts')\n")
+    check.expect("in Python", all(f":2: UserWarning: {it}" in done.stderr for it in told), done)
+    (check.folder / "data.txt").write_text("3\n")
+    done = check.tool("bspsweep", *words, "--input", "given")
+    check.expect("runs with all that they need", "note:" not in done.stderr and done.returncode == 0, done)
 
 
 def edited(check: Check) -> None:
@@ -722,11 +757,7 @@ def refusals(check: Check) -> None:
     for words, text in tried.items():
         done = check.tool("bspsweep", *words)
         check.expect(f"bspsweep {' '.join(words)}", done.returncode == 1 and text in done.stderr, done.stderr)
-    code = "import bspemu\ntry:\n    bspemu.sweep('ring.c', defines={'m': [1, 2]})\nexcept bspemu.BspError as error:\n    print(error)\n"
-    told = subprocess.run(
-        [sys.executable, "-B", "-c", code], cwd=check.folder, env={**os.environ, "PYTHONPATH": str(REPO / "tools")},
-        stdin=subprocess.DEVNULL, capture_output=True, text=True, timeout=SECONDS, check=False,
-    )  # fmt: skip
+    told = check.python("import bspemu\ntry:\n    bspemu.sweep('ring.c', defines={'m': [1, 2]})\nexcept bspemu.BspError as error:\n    print(error)\n")
     check.expect("a column as a constant in Python", "m is a column of the table already: choose another name" in told.stdout, told)
 
 

@@ -216,7 +216,7 @@ class Sweep:
             copy = "check-" + "".join(it if it.isalnum() else "-" for it in host)
             self.make(engine._replace(hosts=(host,)) if host else engine, self.places, copy)
             for run, place in self.places.items():
-                if place.found() is not None and place.found(copy) != place.found():
+                if place.found() is not None and place.figures(copy) != place.figures():
                     wrong.append(f"{run}: another result{' on ' + host if host else ''}: {place.file('json', copy)}")
         return wrong
 
@@ -228,6 +228,10 @@ class Sweep:
         """The files that programs looked for and nobody gave, with their digests."""
         return {name: content for it in self.found.values() if it is not None for name, content in it["sought"].items()}
 
+    def notes(self) -> list[str]:
+        """What the figures of runs rest on, if that may not be what was meant."""
+        return [*self.told_of_clocks(), *result_table.doubts(self.found)]
+
     def told_of_clocks(self) -> list[str]:
         """A line where programs read the clock, which counts in each run at prices that are not those of its points."""
         programs = dict.fromkeys(it.run.program for it in self.points if (it.g, it.l) != CLOCK_PRICES and it.run in self.places)
@@ -235,7 +239,7 @@ class Sweep:
         more = f" and {counted(len(names) - 1, 'more program')}" if names[1:] else ""
         g, l = CLOCK_PRICES
         return [
-            f"note: {names[0]}{more} may read the clock, which counts a byte of h as {g} and a superstep's end as {l} in all runs: if w depends on the"
+            f"{names[0]}{more} may read the clock, which counts a byte of h as {g} and a superstep's end as {l} in all runs: if w depends on the"
             " time, it is that of these prices"
         ] if names else []  # fmt: skip
 
@@ -295,7 +299,7 @@ def sweep(options: argparse.Namespace, words: list[str], before: table_record.Re
     is_whole = not wrong and None not in whole.found.values() and not whole.unplaced
     record = whole.write() if is_whole or not options.check else None
     is_same = record is None or before is None or tell_again(before, record)
-    tell(whole.told_of_clocks(), "bspsweep: ")
+    tell(whole.notes(), "bspsweep: note: ")
     stopped = result_table.stopped(whole.found)
     tell([*whole.unplaced, *result_table.failures(whole.places, whole.found), *stopped, *wrong], "bspsweep: ")
     if options.check:

@@ -15,7 +15,7 @@ from bsptools.plot.superstep_costs import Prices
 from bsptools.refusals import Refused, counted
 
 from . import _figures, _frames
-from ._tools import BspError, Done, Number, Price, call, exact
+from ._tools import BspError, Done, Number, Price, call, exact, listed
 
 if TYPE_CHECKING:
     import pandas
@@ -49,7 +49,7 @@ def run(
     defines : mapping, optional
         Compile-time constants of a C program: ``{"N": 64}``.
     args : sequence
-        Arguments of `main`.
+        Arguments of `main`. A text or a number is one argument.
     input : bytes, str or path
         The program's standard input: its bytes or its text, or an `os.PathLike` that names a file with them.
     files : sequence of paths
@@ -68,11 +68,12 @@ def run(
     BspError
         If the run could not be made, or did not end well and `check` is true; with the text that `bsprun` prints.
     """
+    options = listed(options)
     expect_free(options)
     words = ["-n", str(nodes), *(f"-D{name}={value}" for name, value in (defines or {}).items())]
-    words += [it for name in files for it in ("--file", os.fspath(name))]
+    words += [it for name in listed(files) for it in ("--file", os.fspath(name))]
     given = input.encode() if isinstance(input, str) else input if isinstance(input, bytes) else pathlib.Path(input).read_bytes()
-    return made(Command([*words, *options], os.fspath(program), [str(it) for it in args], given), check)
+    return made(Command([*words, *options], os.fspath(program), [str(it) for it in listed(args)], given), check)
 
 
 def expect_free(options: Sequence[str]) -> None:

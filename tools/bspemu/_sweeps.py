@@ -18,12 +18,14 @@ from bsptools.sweep import result_table, table_record
 from bsptools.sweep.result_store import MAIN
 
 from . import _figures, _frames
-from ._tools import BspError, Price, call, end_all, exact
+from ._tools import BspError, Price, call, end_all, exact, listed
 
 if TYPE_CHECKING:
     import pandas
 
 Path = Union[str, "os.PathLike[str]"]
+# Of bspplot: the value of an option, or those of one that is given more than once.
+Option = Union[str, Sequence[str]]
 # The name of a table that is drawn.
 SOURCE = "table.csv"
 
@@ -43,7 +45,8 @@ def sweep(
     folder: Path = ".bspsweep",
     executor: Optional[concurrent.futures.Executor] = None,
 ) -> Sweep:
-    """Run programs over lists of settings, each with each. What was run before is not run again.
+    """Run programs over lists of settings, each with each. What was run before is not run again. A text or a number where a list is meant is
+    the one value of it.
 
     Parameters
     ----------
@@ -88,17 +91,16 @@ def sweep(
         If a program is not compiled, or a run could not be made; with the text that `bspsweep` prints.
     """
     words = ["--folder", os.fspath(folder)]
-    words += [f"--nodes={','.join(map(str, nodes))}"] if nodes is not None else []
-    words += [f"--{name}={','.join(map(priced, them))}" for name, them in (("g", list(g)), ("l", list(l))) if them]
-    pairs, named = list(map(paired, prices)), list(machines)
+    words += [f"--nodes={','.join(map(str, listed(nodes)))}"] if nodes is not None else []
+    words += [f"--{name}={','.join(map(priced, them))}" for name, them in (("g", listed(g)), ("l", listed(l))) if them]
+    pairs, named = list(map(paired, listed(prices))), listed(machines)
     words += [f"--prices={','.join(pairs)}"] if pairs else []
     words += [f"--machine={','.join(named)}"] if named else []
     words += [f"--interpolate={interpolate}"] if interpolate else []
-    words += [f"--define={name}={','.join(map(str, values))}" for name, values in (defines or {}).items()]
-    words += [f"--args={it}" for it in args] + [f"--input={os.fspath(it)}" for it in inputs]
-    several = [programs] if isinstance(programs, (str, os.PathLike)) else list(programs)
+    words += [f"--define={name}={','.join(map(str, listed(values)))}" for name, values in (defines or {}).items()]
+    words += [f"--args={it}" for it in listed(args)] + [f"--input={os.fspath(it)}" for it in listed(inputs)]
     try:
-        return made([*words, "--", *(os.fspath(it) for it in several)], executor)
+        return made([*words, "--", *(os.fspath(it) for it in listed(programs))], executor)
     except Refused as refused:
         raise BspError("\n".join(refused.args)) from refused
 
@@ -183,8 +185,9 @@ class Sweep:
         except Refused as refused:
             raise BspError("\n".join(refused.args)) from refused
 
-    def curves(self, path: Optional[Path] = None, **options: str) -> Any:
-        """Lines over any column, as `bspplot --curves` draws them: `x="N"`, `y="speedup"`, `by="program"`, `size="3.3in"`, ...
+    def curves(self, path: Optional[Path] = None, **options: Option) -> Any:
+        """Lines over any column, as `bspplot --curves` draws them: `x="N"`, `y="speedup"`, `by="program"`, `size="3.3in"`, ... An option that
+        can be repeated takes a list: `only=["N=64", "g=4"]`.
 
         Returns
         -------
@@ -193,11 +196,11 @@ class Sweep:
         """
         return self._draw("curves", path, options)
 
-    def map(self, path: Optional[Path] = None, **options: str) -> Any:
+    def map(self, path: Optional[Path] = None, **options: Option) -> Any:
         """Which program costs least over g and l, as `bspplot --map` draws it: `only="nodes=8"`, `g_range="0.1:100"`, ..."""
         return self._draw("map", path, options)
 
-    def tex(self, path: Optional[Path] = None, **options: str) -> Optional[str]:
+    def tex(self, path: Optional[Path] = None, **options: Option) -> Optional[str]:
         """A table for LaTeX, as `bspplot --table` writes it; as a text if no path is given."""
         if path is not None:
             self._draw("table", path, options)
@@ -207,8 +210,8 @@ class Sweep:
             self._draw("table", target, options)
             return target.read_text(encoding="utf-8")
 
-    def _draw(self, kind: str, path: Optional[Path], options: Mapping[str, str]) -> Any:
-        words = [f"--{name.replace('_', '-')}={value}" for name, value in options.items()]
+    def _draw(self, kind: str, path: Optional[Path], options: Mapping[str, Option]) -> Any:
+        words = [f"--{name.replace('_', '-')}={value}" for name, values in options.items() for value in listed(values)]
         if path is None:
             notes: List[str] = []
             figure = _figures.of_sweep(figure_of, kind, words, self.table, notes)

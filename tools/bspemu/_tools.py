@@ -108,6 +108,11 @@ def end_all() -> None:
         child.send_signal(signal.SIGTERM)
 
 
+def listed(values: Any) -> List[Any]:
+    """The values of a list, or the one value that stands in its place: a text is no list of its letters."""
+    return [values] if isinstance(values, (str, bytes)) or not isinstance(values, Iterable) else list(values)
+
+
 def exact(value: Price) -> Number:
     """A price as an exact number: 31/8 may be given as "31/8", 3.875, or a Fraction."""
     try:

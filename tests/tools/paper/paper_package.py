@@ -63,6 +63,10 @@ with warnings.catch_warnings(record=True) as noted:
     cut.curves(), cut.curves("c.svg"), cut.tex(), cut.tex("t.tex"), cut.curves(only="nodes=2,4"), sweep.curves()
 print(json.dumps([[it.filename.rpartition("/")[2], str(it.message)] for it in noted if "left out" in str(it.message)]))
 print(json.dumps([len(sweep.frame), str(sweep.frame.dtypes["nodes"]), str(sweep.frame.dtypes["total"]), sweep.frame["outcome"].unique().tolist()]))
+one = bspemu.sweep("sieve.c", nodes="2", g=4, l="10", prices="1:2", args="100", machines="t3e", defines={"N": "16"})
+print(one.table == bspemu.sweep("sieve.c", nodes=[2], g=[4], l=[10], prices=["1:2"], args=["100"], machines=["t3e"], defines={"N": ["16"]}).table)
+print(bspemu.run("sieve.c", nodes=2, args="100", options="--strict").output == bspemu.run("sieve.c", nodes=2, args=["100"]).output)
+print(sweep.tex(only=["nodes=1,2", "g=1/3"]).count("&") < sweep.tex(only="nodes=1,2").count("&"))
 """
 
 
@@ -95,7 +99,7 @@ def imported(check: Check) -> None:
     (check.folder / "typed.py").write_text(SCRIPT)
     done = python(check.folder, "typed.py")
     lines = done.stdout.splitlines()
-    check.expect("what is typed", done.returncode == 0 and len(lines) == 22, done.stdout + done.stderr)
+    check.expect("what is typed", done.returncode == 0 and len(lines) == 25, done.stdout + done.stderr)
     report = check.tool("bsprun", "-n", "4", "--report", "r.json", "--g", "4", "--l", "7", "sieve.c", "1000")
     told = json.loads((check.folder / "r.json").read_text())
     w, h = (sum(it[name] for it in told["supersteps"]) for name in ("w", "h"))
@@ -122,6 +126,7 @@ def imported(check: Check) -> None:
         check.expect(f"the exception of {text}", found[0] == status and text in found[1] and found[2] == (status == 2), line)
     noted = ["typed.py", "1 of 3 runs did not end well and is left out: sieve.c, 1 node, args 100: rank 0 stopped: aborted"]
     check.expect("warnings of runs that are left out", json.loads(lines[20]) == [noted] * 4, lines[20])
+    check.expect("a text or a number for a list, and a list for an option", lines[22:] == ["True"] * 3, lines[22:])
     check.expect("a sweep by processes", json.loads(lines[21]) == [6, "Int64", "Float64", ["ended"]], lines[21])
     # The key that seals results is below the home of whoever made them.
     again = [str(REPO / "bspsweep"), "--again", "sweep.csv.json", "--engine", "plain"]

@@ -271,7 +271,7 @@ def sought(check: Check) -> None:
 
 def doubts(check: Check) -> None:
     """What bsprun says of a run without its input or its file is told of all runs in a line, also where they are kept, and in Python; and
-    nothing is told of runs that have them."""
+    nothing is told of runs to which they are given."""
     (check.folder / "needs.c").write_text(NEEDING)
     (check.folder / "given").write_text("3\n")
     words = ["--engine", "plain", "--folder", "doubts", "-n", "1,2", "needs.c"]
@@ -285,7 +285,13 @@ def doubts(check: Check) -> None:
     check.expect("in Python", all(f":2: UserWarning: {it}" in done.stderr for it in told), done)
     (check.folder / "data.txt").write_text("3\n")
     done = check.tool("bspsweep", *words, "--input", "given")
+    read = "bspsweep: note: 2 of 2 runs read files that nobody gave, the first one needs.c, given, 1 node: data.txt; --file gives them, and --no-files"
+    check.expect("runs that find what they need", done.stderr.count("note:") == 1 and read in done.stderr and done.returncode == 0, done)
+    done = check.tool("bspsweep", *words, "--input", "given", "--file", "data.txt")
     check.expect("runs with all that they need", "note:" not in done.stderr and done.returncode == 0, done)
+    done = check.tool("bspsweep", *words, "--input", "given", "--no-files")
+    right = done.stderr.count("note:") == 1 and "2 of 2 runs did not find a file" in done.stderr and done.returncode == 0
+    check.expect("runs that may read no file", right, done)
 
 
 def edited(check: Check) -> None:

@@ -103,6 +103,7 @@ def arguments(words: list[str]) -> argparse.Namespace:
     add("--args", type=parted, action="append", metavar="TEXT", help="arguments of main, split as the shell does; can be repeated")
     add("--define", type=constant, action="append", default=[], metavar="N=100,1000", help="values of a compile-time constant of a .c program")
     add("--file", action="append", default=[], metavar="FILE", help="file that the program can open with fopen, in all runs")
+    add("--no-files", action="store_true", help="let programs write no files, and read only those that you give them")
     parser.section(COMPILING)
     parser.add_number("--stack", what="the room of the stack in bytes", least=limits.LEAST_STACK, most=limits.MOST_STACK,
         metavar="BYTES", help="stack of a .c program; default 1M, or 128K if --memory is less than 4M")  # fmt: skip
@@ -299,7 +300,7 @@ def sweep(options: argparse.Namespace, words: list[str], before: table_record.Re
     is_whole = not wrong and None not in whole.found.values() and not whole.unplaced
     record = whole.write() if is_whole or not options.check else None
     is_same = record is None or before is None or tell_again(before, record)
-    tell(whole.notes(), "bspsweep: note: ")
+    tell([*whole.notes(), *result_table.unasked(whole.found)], "bspsweep: note: ")
     stopped = result_table.stopped(whole.found)
     tell([*whole.unplaced, *result_table.failures(whole.places, whole.found), *stopped, *wrong], "bspsweep: ")
     if options.check:

@@ -149,7 +149,7 @@ class Store:
         words = ["--nodes", str(run.nodes), "--memory", str(options.memory), "--limit", str(options.limit)]
         is_large = options.large or limits.are_passed(run.nodes, options.memory)
         words += ["--format", run.program.kind, *(["--float"] if options.float else [])]
-        words += [*(["--atomic"] if options.atomic else []), *([limits.OPTION] if is_large else [])]
+        words += [*(["--no-files"] if options.no_files else []), *(["--atomic"] if options.atomic else []), *([limits.OPTION] if is_large else [])]
         # bsprun gives the files that arguments name, too.
         named = files_named(run.words)
         programs, given = [self.emulator, image], [*filter(None, [run.given]), *options.file, *named]

@@ -66,6 +66,13 @@ def doubts(found: dict[Run, Record | None]) -> list[str]:
     return [line for what, told in kinds.items() for line in first_of(told, len(made), what)]
 
 
+def unasked(found: dict[Run, Record | None]) -> list[str]:
+    """A line where programs read files that nobody gave them: a table shows some of what is in them."""
+    files = {run: [name for name, content in it["sought"].items() if content] for run, it in found.items() if it is not None}
+    told = {run: names[0] + (f" and {counted(len(names) - 1, 'more file')}" if names[1:] else "") for run, names in files.items() if names}
+    return [f"{it}; --file gives them, and --no-files forbids them" for it in first_of(told, len(files), "read files that nobody gave")]
+
+
 def first_of(told: dict[Run, str], count: int, what: str) -> list[str]:
     """A line where some of so many runs did something, with the first of them and what is told of it."""
     first = next((f"{run}: {text}" for run, text in told.items()), "")

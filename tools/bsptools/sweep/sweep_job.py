@@ -40,7 +40,8 @@ def make(folder: str, copy: str) -> int:
         report = temp / "report.json"
         words = [emulator.program("bsprun"), *PRICES, f"--argv0={NAME}", "--report", str(report), *job["words"], job["image"], *job["args"]]
         # Runs go on beside one another, and a result stands for a run: what their programs write would be a file of one of them.
-        words[1:1] = ["--out", str(temp / "files")] if writes_files(content_of(job["image"], MOST_PROGRAM)) else []
+        is_writing = "--no-files" not in job["words"] and writes_files(content_of(job["image"], MOST_PROGRAM))
+        words[1:1] = ["--out", str(temp / "files")] if is_writing else []
         environment = {**os.environ, "BSPEMU": job["emulator"], FLAGS: ""}
         done = children.call(words, stdout=subprocess.PIPE, stderr=subprocess.PIPE, cwd=job["folder"], env=environment)
         content = report.read_bytes() if report.exists() else b""

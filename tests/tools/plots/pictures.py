@@ -288,6 +288,13 @@ def forms(check: Check) -> None:
         check.tool("bsprun", "-n", "4", "--report", name, str(REPO / "examples/c/lu.elf"))
         found = drawn(check, "costs", check.folder / name, *WORDS)
         check.expect(f"costs of a report, {name}", found == wanted, found)
+    check.tool("bsprun", "-n", "4", "--g", "4", "--l", "100", "--report", "priced.json", str(REPO / "examples/c/lu.elf"))
+    whole = json.loads((check.folder / "priced.json").read_text())["total"]
+    for words, count in (((), 1), (("--g", "4", "--l", "100"), 0)):
+        check.tool("bspplot", "--html", "priced.html", *words, "priced.json")
+        row = f"<tr><th>total of the report</th><td>{whole:,} ticks, at other prices: give these by --g and --l</td></tr>"
+        found_rows = (check.folder / "priced.html").read_text().count(row)
+        check.expect(f"a report of other prices, {words}", found_rows == count, (row, found_rows))
     wanted = drawn(check, "costs", file_of("inner"), "--h", "all")
     found = drawn(check, "costs", first_report(check), "--h", "all")
     check.expect("costs of a report by the first version of the ledger", found == wanted, found)

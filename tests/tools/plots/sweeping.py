@@ -756,6 +756,7 @@ def refusals(check: Check) -> None:
         ("--nodes", "1:1000", "--g", "1:1000", PROGRAMS[0]): "bspsweep: the sweep has 1000000 points; the limit is 100000",
         ("--make", PROGRAMS[0]): "bspsweep: unrecognized arguments: --make",
         ("--make", "absent", "run"): "bspsweep: absent/job.json: No such file or directory",
+        ("--engine", "plain", "--jobs", "3", PROGRAMS[0]): "bspsweep: --engine plain makes one run after another, whatever --jobs says",
         ("absent.s",): "bspsweep: absent.s: No such file or directory",
         ("--input", "absent", PROGRAMS[0]): "bspsweep: absent: No such file or directory",
         ("-o", "absent/t.csv", "--folder", "plain", "--nodes", "3", PROGRAMS[0]): "absent/t.csv: No such file or directory",

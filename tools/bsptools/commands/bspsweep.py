@@ -353,6 +353,8 @@ def expect_used(options: argparse.Namespace) -> None:
         raise Refused("--sbatch is for Slurm: add --engine slurm, or leave it out")
     if options.hosts and options.script:
         raise Refused("--hosts is for GNU parallel, and --script writes a script for Slurm: leave one of them out")
+    if options.jobs and options.engine == engines.PLAIN and not options.script:
+        raise Refused("--engine plain makes one run after another, whatever --jobs says: leave one of them out")
     if options.interpolate and not options.machine:
         raise Refused("--interpolate is for the prices of --machine: add --machine, or leave it out")
 

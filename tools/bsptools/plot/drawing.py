@@ -163,6 +163,8 @@ def settings(plan: Plan) -> list[tuple[str, str]]:
         whole = f"{thousands(total(source.costs, plan.prices))} ticks in {them}"
         known += [("h", "what a rank moves to itself counts, too")] * (plan.options.h is Reading.ALL)
         known += [("g", f"{spelled(plan.prices.g)} ticks a byte"), ("l", f"{spelled(plan.prices.l)} ticks a superstep"), ("total", whole)]
+        is_other = source.total not in (0, total(source.costs, plan.prices))
+        known += [("total of the report", f"{thousands(source.total)} ticks, at other prices: give these by --g and --l")] * is_other
         known += [("printing", it) for it in [printing(plan)] if it]
     return known + ([("outcome", source.outcome)] if source.outcome else [])
 

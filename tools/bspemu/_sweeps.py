@@ -13,7 +13,7 @@ from bsptools import children, files
 from bsptools.commands import bspplot, bspsweep
 from bsptools.plot import picture_options, sweep_table
 from bsptools.prices import spelled
-from bsptools.refusals import Refused
+from bsptools.refusals import Refused, printable
 from bsptools.sweep import result_table, table_record
 from bsptools.sweep.result_store import MAIN
 
@@ -24,6 +24,8 @@ if TYPE_CHECKING:
     import pandas
 
 Path = Union[str, "os.PathLike[str]"]
+# Of bspplot: the value of an option, or those of one that is given more than once.
+Option = Union[str, Sequence[str]]
 # The name of a table that is drawn.
 SOURCE = "table.csv"
 
@@ -75,6 +77,12 @@ def sweep(
     Returns
     -------
     Sweep
+
+    Warns
+    -----
+    UserWarning
+        If runs found no input or no file, or did something else by which their figures may not be those that you want; with what `bsprun`
+        says of the first of them. So it is if a program reads the clock.
 
     Raises
     ------
@@ -137,6 +145,7 @@ def made(words: List[str], executor: Optional[concurrent.futures.Executor]) -> S
     wrong = [*whole.unplaced, *result_table.failures(whole.places, whole.found)]
     if wrong:
         raise BspError("\n".join(wrong))
+    warn(whole.notes())
     table = result_table.table(whole.points, whole.found, [name for name, _ in options.define])
     return Sweep(table, table_record.made(options, words, whole.points, whole.store, table, whole.sought()))
 
@@ -175,8 +184,9 @@ class Sweep:
         except Refused as refused:
             raise BspError("\n".join(refused.args)) from refused
 
-    def curves(self, path: Optional[Path] = None, **options: str) -> Any:
-        """Lines over any column, as `bspplot --curves` draws them: `x="N"`, `y="speedup"`, `by="program"`, `size="3.3in"`, ...
+    def curves(self, path: Optional[Path] = None, **options: Option) -> Any:
+        """Lines over any column, as `bspplot --curves` draws them: `x="N"`, `y="speedup"`, `by="program"`, `size="3.3in"`, ... An option that
+        can be repeated takes a list: `only=["N=64", "g=4"]`.
 
         Returns
         -------
@@ -185,11 +195,11 @@ class Sweep:
         """
         return self._draw("curves", path, options)
 
-    def map(self, path: Optional[Path] = None, **options: str) -> Any:
+    def map(self, path: Optional[Path] = None, **options: Option) -> Any:
         """Which program costs least over g and l, as `bspplot --map` draws it: `only="nodes=8"`, `g_range="0.1:100"`, ..."""
         return self._draw("map", path, options)
 
-    def tex(self, path: Optional[Path] = None, **options: str) -> Optional[str]:
+    def tex(self, path: Optional[Path] = None, **options: Option) -> Optional[str]:
         """A table for LaTeX, as `bspplot --table` writes it; as a text if no path is given."""
         if path is not None:
             self._draw("table", path, options)
@@ -199,8 +209,8 @@ class Sweep:
             self._draw("table", target, options)
             return target.read_text(encoding="utf-8")
 
-    def _draw(self, kind: str, path: Optional[Path], options: Mapping[str, str]) -> Any:
-        words = [f"--{name.replace('_', '-')}={value}" for name, value in options.items()]
+    def _draw(self, kind: str, path: Optional[Path], options: Mapping[str, Option]) -> Any:
+        words = [f"--{name.replace('_', '-')}={value}" for name, values in options.items() for value in several(values)]
         if path is None:
             notes: List[str] = []
             figure = _figures.of_sweep(figure_of, kind, words, self.table, notes)
@@ -218,9 +228,9 @@ class Sweep:
 
 
 def warn(notes: Iterable[str]) -> None:
-    """Tells what a picture leaves out, as of the line that called a method of a sweep."""
+    """Tells what the figures of runs rest on or a picture leaves out, as of the line that asked for a sweep or called a method of one."""
     for it in notes:
-        warnings.warn(it, stacklevel=4)
+        warnings.warn(printable(it), stacklevel=4)
 
 
 def figure_of(kind: str, words: List[str], table: str, notes: List[str]) -> Any:

@@ -82,6 +82,9 @@ class Family(NamedTuple):
     name: str
     sizes: dict[int, Machine]
 
+    def __hash__(self) -> int:
+        return hash(self.name)
+
     def at(self, nodes: int, is_interpolated: bool) -> tuple[Exact, Exact] | None:
         """g and l on so many nodes; None if they were not measured there, and are not to be interpolated between the sizes beside it."""
         if nodes in self.sizes:

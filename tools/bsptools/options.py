@@ -59,6 +59,13 @@ class Compiled(argparse.Action):
         found.compiled = [*(found.compiled or []), word]
 
 
+class Joined(argparse.Action):
+    """Keeps a list of values that are parted by commas. If the option is given again, its values are added to the list."""
+
+    def __call__(self, _parser: argparse.ArgumentParser, found: argparse.Namespace, values: Any, option: str | None = None) -> None:
+        setattr(found, self.dest, type(values)(dict.fromkeys([*(getattr(found, self.dest) or ()), *values])))
+
+
 class Layout(argparse.HelpFormatter):
     """Lays out a help. Paragraphs of a description are filled; one that begins with two blanks is a list of examples, and stays as it is."""
 

@@ -34,6 +34,8 @@ MISFITS: Dict[Tuple[str, ...], str] = {
     ("--curves", "c.svg", "--by", "program"): "at nodes 1 a line has two values, those of g 1 and g none: give --by program,g, --panels g or --only g=1",
     ("--curves", "c.svg", "--panels", "nodes"): "nodes is on the axis, so it separates neither lines nor panels",
     ("--curves", "c.svg", "--only", "N=5"): "no run in it has N 5; there is N 1, 16",
+    ("--curves", "c.svg", "--only", "N=16,5"): "no run in it has N 5; there is N 1, 16",
+    ("--table", "c.tex", "--only", "N=16,g=1,l=100"): "has N g=1; there is N 1, 16; each column has an --only of its own, as --only g=1",
     ("--curves", "c.svg", "--only", "machine=cray"): "no run in it has machine cray; there is machine none, t3e",
     ("--curves", "c.svg", "--only", "N=1", "--only", "N=5,16"): "--only is given twice for N: give all values at once, as --only N=1,5,16",
     ("--curves", "c.svg", "--x", "w"): "w is what runs cost, and not a setting: only --y can show it",

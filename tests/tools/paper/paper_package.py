@@ -67,6 +67,7 @@ print(json.dumps([[it.filename.rpartition("/")[2], str(it.message)] for it in no
 alone = bspemu.sweep("sieve.c", nodes=4, g="45", l=7, defines={"N": "16"}, args="1000").frame
 print(alone[["nodes", "g", "l", "N", "args"]].astype(str).values.tolist(), bspemu.run("sieve.c", nodes=4, args="1000").output == run.output)
 print(json.dumps([len(sweep.frame), str(sweep.frame.dtypes["nodes"]), str(sweep.frame.dtypes["total"]), sweep.frame["outcome"].unique().tolist()]))
+print(sweep.tex(only=["nodes=1,2", "g=1/3"]).count("&") < sweep.tex(only="nodes=1,2").count("&"))
 """
 
 
@@ -100,7 +101,7 @@ def imported(check: Check) -> None:
     (check.folder / "typed.py").write_text(SCRIPT)
     done = python(check.folder, "typed.py")
     lines = done.stdout.splitlines()
-    check.expect("what is typed", done.returncode == 0 and len(lines) == 27, done.stdout + done.stderr)
+    check.expect("what is typed", done.returncode == 0 and len(lines) == 28, done.stdout + done.stderr)
     report = check.tool("bsprun", "-n", "4", "--report", "r.json", "--g", "4", "--l", "7", "sieve.c", "1000")
     told = json.loads((check.folder / "r.json").read_text())
     w, h = (sum(it[name] for it in told["supersteps"]) for name in ("w", "h"))
@@ -129,6 +130,7 @@ def imported(check: Check) -> None:
     noted = ["typed.py", "1 of 3 runs did not end well and is left out: sieve.c, 1 node, args 100: rank 0 stopped: aborted"]
     check.expect("warnings of runs that are left out", json.loads(lines[24]) == [noted] * 4, lines[24])
     check.expect("one value in place of a list", lines[25] == "[['4', '45', '7', '16', '1000']] True", lines[25])
+    check.expect("a list for an option", lines[27] == "True", lines[27])
     check.expect("a sweep by processes", json.loads(lines[26]) == [6, "Int64", "Float64", ["ended"]], lines[26])
     # The key that seals results is below the home of whoever made them.
     again = [str(REPO / "bspsweep"), "--again", "sweep.csv.json", "--engine", "plain"]

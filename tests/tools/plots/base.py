@@ -9,6 +9,7 @@ import os
 import pathlib
 import shutil
 import subprocess
+import sys
 import tempfile
 from dataclasses import replace
 from typing import Callable, Dict, Mapping, Optional, Tuple
@@ -43,6 +44,14 @@ class Check:
         variables.update(environment or {})
         left = {name: it for name, it in variables.items() if it is not None}
         return forked.run(command, cwd=self.folder, env=left)
+
+    def python(self, code: str) -> subprocess.CompletedProcess[str]:
+        """A run of a program in Python, which can import the package."""
+        (self.folder / "program.py").write_text(code)
+        return subprocess.run(
+            [sys.executable, "-B", "program.py"], cwd=self.folder, env={**os.environ, "PYTHONPATH": str(REPO / "tools")},
+            stdin=subprocess.DEVNULL, capture_output=True, text=True, timeout=SECONDS, check=False,
+        )  # fmt: skip
 
     def started(self, name: str, *words: str) -> subprocess.CompletedProcess[str]:
         """A run of a script by a process of its own, whose sets have another order than those of any other."""

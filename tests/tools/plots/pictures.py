@@ -263,14 +263,22 @@ def choices(check: Check) -> None:
     source = file_of("broadcast2")
     one = drawn(check, "matrix", source, "--supersteps", "1")
     check.expect("matrix of one superstep", set(one.named("bytes-")) == {f"bytes-0-{to}" for to in (1, 2, 3)}, one.marks)
-    some = drawn(check, "costs", source, "--supersteps", "1:2")
+    some = drawn(check, "costs", source, "--supersteps", "1:2", "--h", "all", "--html", str(check.folder / "some.html"))
     check.expect("costs of two supersteps", {it.split("-")[1] for it in some.marks} == {"1", "2"}, some.marks)
+    page = (check.folder / "some.html").read_text()
+    wanted = ["<th>pictures</th><td>supersteps 1 to 2 of 4</td>", "ticks in all 4 supersteps</td>", "(column) in supersteps 1 to 2. "]
+    wanted += ["The table has all supersteps.", "<th>h</th><td>what a rank moves to itself counts, too</td>", "What stayed at its rank is in h, too."]
+    lacking = [it for it in wanted if it not in page]
+    check.expect("a page of two supersteps", not lacking and "all supersteps together" not in page and "hatched" not in page, lacking)
     others = drawn(check, "costs", file_of("inner"))
     check.expect("h of other ranks alone", others.marks["gh-1"].text == "superstep 1: g·h = 24", others.marks["gh-1"])
     whole = drawn(check, "costs", file_of("inner"), "--h", "all")
     check.expect("h of all bytes", whole.marks["gh-1"].text == "superstep 1: g·h = 32", whole.marks["gh-1"])
     rest = drawn(check, "timeline", file_of("lu"), "--supersteps", "12:")
     check.expect("timeline of the last supersteps", {it.split("-")[1] for it in rest.marks} == {"12", "13"}, rest.marks)
+    drawn(check, "costs", source, "--supersteps", "0:", "--html", str(check.folder / "whole.html"))
+    page = (check.folder / "whole.html").read_text()
+    check.expect("a page of all supersteps", "all supersteps together" in page and "<th>pictures</th>" not in page and "ticks in 4 supersteps" in page, page[-999:])
 
 
 def forms(check: Check) -> None:
@@ -280,6 +288,13 @@ def forms(check: Check) -> None:
         check.tool("bsprun", "-n", "4", "--report", name, str(REPO / "examples/c/lu.elf"))
         found = drawn(check, "costs", check.folder / name, *WORDS)
         check.expect(f"costs of a report, {name}", found == wanted, found)
+    check.tool("bsprun", "-n", "4", "--g", "4", "--l", "100", "--report", "priced.json", str(REPO / "examples/c/lu.elf"))
+    whole = json.loads((check.folder / "priced.json").read_text())["total"]
+    for words, count in (((), 1), (("--g", "4", "--l", "100"), 0)):
+        check.tool("bspplot", "--html", "priced.html", *words, "priced.json")
+        row = f"<tr><th>total of the report</th><td>{whole:,} ticks, at other prices: give these by --g and --l</td></tr>"
+        found_rows = (check.folder / "priced.html").read_text().count(row)
+        check.expect(f"a report of other prices, {words}", found_rows == count, (row, found_rows))
     wanted = drawn(check, "costs", file_of("inner"), "--h", "all")
     found = drawn(check, "costs", first_report(check), "--h", "all")
     check.expect("costs of a report by the first version of the ledger", found == wanted, found)

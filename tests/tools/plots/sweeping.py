@@ -11,7 +11,6 @@ import shlex
 import shutil
 import signal
 import subprocess
-import sys
 import threading
 import time
 from fractions import Fraction
@@ -19,7 +18,7 @@ from typing import Any, Callable, Dict, List, Mapping, Optional, Sequence, Set
 
 import cluster
 from base import PARALLEL, REPO, Check, Parts
-from checks import COMPILER, SECONDS, Part
+from checks import COMPILER, Part
 
 from bsptools import sealed_results
 from bsptools.sweep.result_store import Place
@@ -111,6 +110,22 @@ int main(int argc, char **argv)
 }
 """
 
+# Reads a number from its input and from a file, and goes on without them.
+NEEDING = """\
+#include <bsp.h>
+#include <stdio.h>
+int main(void)
+{
+    int n = 0;
+    bsp_begin(bsp_nprocs());
+    scanf("%d", &n);
+    FILE *file = fopen("data.txt", "r");
+    if (file)
+        fscanf(file, "%d", &n);
+    bsp_end();
+    return 0;
+}
+"""
 # Works for as long as a file says, which bsprun gives by itself if it is here, and writes what it has read.
 SEEKING = """\
 #include <bsp.h>
@@ -149,7 +164,9 @@ def parts(make: Parts) -> List[Part]:
         make.part("odd names of hosts and folders", hostile),
         make.part("runs that do not end", ended),
         make.part("a sweep of a program in C", sources, tools=COMPILER),
+        make.part("lists in several parts", repeated, tools=COMPILER),
         make.part("files that nobody gave a sweep", sought, tools=COMPILER),
+        make.part("runs whose figures may be in doubt", doubts, tools=COMPILER),
         make.part("what is edited while a sweep goes on", edited, tools=COMPILER),
         make.part("runs that cannot be made", missing),
         make.part("programs that are not compiled", uncompiled, tools=COMPILER),
@@ -250,6 +267,31 @@ def sought(check: Check) -> None:
     found = work(BSPRUN_FLAGS="--no-files"), work()
     check.expect("options of bsprun in the environment", found[0] == found[1] > least + 1000, (found, least))
     check.expect("nothing is written beside the program", not (check.folder / "written.txt").exists(), "written.txt is there")
+
+
+def doubts(check: Check) -> None:
+    """What bsprun says of a run without its input or its file is told of all runs in a line, also where they are kept, and in Python; and
+    nothing is told of runs to which they are given."""
+    (check.folder / "needs.c").write_text(NEEDING)
+    (check.folder / "given").write_text("3\n")
+    words = ["--engine", "plain", "--folder", "doubts", "-n", "1,2", "needs.c"]
+    first = "the first one needs.c, 1 node: rank 0, superstep 0: "
+    told = [f"2 of 2 runs found no input, {first}a number is read, and the input is empty: give --input FILE"]
+    told += [f"2 of 2 runs did not find a file, {first}data.txt was not found: no file of this name was given, and none is in this folder"]
+    for name in ("made", "kept"):
+        done = check.tool("bspsweep", *words)
+        check.expect(f"{name} runs without input", all(f"bspsweep: note: {it}" in done.stderr for it in told) and done.returncode == 0, done)
+    done = check.python("import bspemu\nbspemu.sweep('needs.c', nodes=[1, 2], folder='doubts')\n")
+    check.expect("in Python", all(f":2: UserWarning: {it}" in done.stderr for it in told), done)
+    (check.folder / "data.txt").write_text("3\n")
+    done = check.tool("bspsweep", *words, "--input", "given")
+    read = "bspsweep: note: 2 of 2 runs read files that nobody gave, the first one needs.c, given, 1 node: data.txt; --file gives them, and --no-files"
+    check.expect("runs that find what they need", done.stderr.count("note:") == 1 and read in done.stderr and done.returncode == 0, done)
+    done = check.tool("bspsweep", *words, "--input", "given", "--file", "data.txt")
+    check.expect("runs with all that they need", "note:" not in done.stderr and done.returncode == 0, done)
+    done = check.tool("bspsweep", *words, "--input", "given", "--no-files")
+    right = done.stderr.count("note:") == 1 and "2 of 2 runs did not find a file" in done.stderr and done.returncode == 0
+    check.expect("runs that may read no file", right, done)
 
 
 def edited(check: Check) -> None:
@@ -714,6 +756,7 @@ def refusals(check: Check) -> None:
         ("--nodes", "1:1000", "--g", "1:1000", PROGRAMS[0]): "bspsweep: the sweep has 1000000 points; the limit is 100000",
         ("--make", PROGRAMS[0]): "bspsweep: unrecognized arguments: --make",
         ("--make", "absent", "run"): "bspsweep: absent/job.json: No such file or directory",
+        ("--engine", "plain", "--jobs", "3", PROGRAMS[0]): "bspsweep: --engine plain makes one run after another, whatever --jobs says",
         ("absent.s",): "bspsweep: absent.s: No such file or directory",
         ("--input", "absent", PROGRAMS[0]): "bspsweep: absent: No such file or directory",
         ("-o", "absent/t.csv", "--folder", "plain", "--nodes", "3", PROGRAMS[0]): "absent/t.csv: No such file or directory",
@@ -721,11 +764,7 @@ def refusals(check: Check) -> None:
     for words, text in tried.items():
         done = check.tool("bspsweep", *words)
         check.expect(f"bspsweep {' '.join(words)}", done.returncode == 1 and text in done.stderr, done.stderr)
-    code = "import bspemu\ntry:\n    bspemu.sweep('ring.c', defines={'m': [1, 2]})\nexcept bspemu.BspError as error:\n    print(error)\n"
-    told = subprocess.run(
-        [sys.executable, "-B", "-c", code], cwd=check.folder, env={**os.environ, "PYTHONPATH": str(REPO / "tools")},
-        stdin=subprocess.DEVNULL, capture_output=True, text=True, timeout=SECONDS, check=False,
-    )  # fmt: skip
+    told = check.python("import bspemu\ntry:\n    bspemu.sweep('ring.c', defines={'m': [1, 2]})\nexcept bspemu.BspError as error:\n    print(error)\n")
     check.expect("a column as a constant in Python", "m is a column of the table already: choose another name" in told.stdout, told)
 
 
@@ -738,7 +777,7 @@ def ended(check: Check) -> None:
     told = "bspsweep: 1 of 2 runs did not end well: " + words[-1] + ", 2 nodes: rank 1 stopped: aborted\n"
     right = (done.returncode, outcomes) == (2, ["ended", "rank 1 stopped: aborted"]) and done.stderr.endswith(told)
     check.expect("runs that do not end", right, done)
-    done = check.tool("bspsweep", *words, "--nodes", "3,2,1", "--check")
+    done = check.tool("bspsweep", "--nodes", "3", *words, "--check")
     told = "2 of 3 runs did not end well, the first one " + words[-1] + ", 3 nodes: rank 1 stopped: aborted\n"
     check.expect("runs that do not end, checked", done.returncode == 2 and told in done.stderr and "gave the same" in done.stderr, done)
     (check.folder / "bad.elf").write_bytes(b"\x7fELF" + bytes(60))
@@ -748,6 +787,17 @@ def ended(check: Check) -> None:
         check.expect("a run that cannot be made", right and "1 of 1 run done" in done.stderr, done.stdout + done.stderr)
     done = check.tool("bspsweep", *words, "bad.elf")
     check.expect("both of them", done.returncode == 1 and "1 of 2 runs did not end well" in done.stderr, done)
+
+
+def repeated(check: Check) -> None:
+    """An option with a list that is given again adds to the list, and what is given twice is one point."""
+    (check.folder / "parts.c").write_text(SOURCE)
+    begin = ["--engine", "plain", "--folder", "parts"]
+    several = ["--define", "N=10", "--define", "N=20,10", "-n", "2", "-n", "4,2", "--g", "1", "--g", "2", "--l", "3", "--l", "3", "--prices", "4:5"]
+    several += ["--prices", "6:7,4:5", "--machine", "t3e", "--machine", "t3e", "--args", "9", "--args", "9", "parts.c", "parts.c"]
+    whole = ["--define", "N=10,20", "-n", "2,4", "--g", "1,2", "--l", "3", "--prices", "4:5,6:7", "--machine", "t3e", "--args", "9", "parts.c"]
+    tables = [check.tool("bspsweep", *begin, *words) for words in (several, whole)]
+    check.expect("lists in several parts", tables[0].stdout == tables[1].stdout != "", tables[0].stdout[:200] + tables[0].stderr)
 
 
 def sources(check: Check) -> None:

@@ -14,7 +14,7 @@ import pathlib
 from collections.abc import Iterator
 
 from .. import children, own_folders, prices, python_packages
-from ..options import Parser, pair, rate
+from ..options import Joined, Parser, pair, rate
 from ..plot.picture_formats import KINDS, LOGS, MEASURES, PGF, TEX, price_range, size
 from ..plot.picture_options import settle
 from ..plot.profile import Reading
@@ -137,8 +137,8 @@ def add_papers(parser: Parser) -> None:
     parser.section("for --curves, --map and --table")
     add("--x", metavar="COLUMN", help="with --curves and --table: the x axis: nodes (the default), g, l or a constant")
     add("--y", choices=MEASURES, help="with --curves and --table: the y axis; default total")
-    add("--by", type=names, metavar="COLUMN,..", help="one line, or one program of a map, for each value of these columns; default: all columns that differ")
-    add("--panels", type=names, metavar="COLUMN,..", help="one small picture for each value of these columns, side by side")
+    add("--by", type=names, action=Joined, metavar="COLUMN,..", help="one line, or one program of a map, for each value of these columns; default: all columns that differ")
+    add("--panels", type=names, action=Joined, metavar="COLUMN,..", help="one small picture for each value of these columns, side by side")
     add("--only", type=chosen, action="append", default=[], metavar="COLUMN=VALUE,..", help="only rows with these values of a column; can be repeated for other columns")
     add("--log", choices=LOGS, help="logarithmic axes; default: those with a wide range of values")
     add("--size", type=size, metavar="WIDTH[xHEIGHT]", help="with --curves and --map: size of the picture, as 3.3in or 84mmx60mm")

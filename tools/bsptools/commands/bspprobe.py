@@ -7,7 +7,7 @@ import os
 import shlex
 
 from .. import children, files, limits, own_folders, python_packages
-from ..options import P, Parser, listed
+from ..options import Joined, P, Parser, listed
 from ..probe import machine_lines, probing, samples
 from ..probe.estimates import Estimate, Fit
 from ..probe.probing import Setting
@@ -39,7 +39,7 @@ def parser() -> Parser:
     )
     add = found.add_argument
     found.section("processes")
-    add("-n", "--nodes", type=listed(P), metavar="LIST", help="numbers of processes, as 1,2,4 or 1:4; default: 1, 2, 4 and so on up to the processors")
+    add("-n", "--nodes", type=listed(P), action=Joined, metavar="LIST", help="numbers of processes, as 1,2,4 or 1:4; default: 1, 2, 4 and so on up to the processors")
     add("--mpi", action="store_true", help="use MPI, with the hosts that mpirun has, instead of processes of this host")
     add("--mpirun", metavar="COMMAND", help="how to start a program with MPI; default 'mpirun -n {p}', where {p} is the number of processes")
     add("--program", metavar="COMMAND", help="run this program, which you built from bsplib/native/probe.c with any BSPlib; {p} is the number of processes")

@@ -15,6 +15,7 @@ from .. import children, files, streams
 from ..limits import MOST_WORKERS, WORKERS
 from ..machines import Take
 from ..options import FLAGS, MISTAKES, OUTPUT, Parser
+from ..outputs.library_notes import NO_TEXT, STATUS
 from ..outputs.report import Report
 from ..prepare.given_files import files_read, outputs_of, with_others
 from ..prepare.job import Job, prepared
@@ -27,6 +28,7 @@ from ..run.watched_run import Done, Fewer, Interrupted, Stopped, Watch
 
 if TYPE_CHECKING:
     from ..portable.trial_builds import Builds
+    from ..run.exit_status import Chosen
 
 # The status of a run that the clock has ended, as that of timeout(1), and the longest that --wall takes.
 WALL, MOST_SECONDS = 124, 10_000_000
@@ -167,27 +169,26 @@ def deliver(job: Job, done: Done) -> int:
     if done.status == UNWRITTEN and options.profile is not None:
         tell([f"bsprun: {options.profile}: the profile could not be written there; the output is complete"])
     # What has no part in most runs is loaded where it is wanted, so that these begin sooner.
+    chosen, told = noted(job, done, found) if done.notes else (None, [])
+    told += [(NO_TEXT, "a NULL text was printed, as by puts or %s: the output has the bytes at address 0")] * (done.has_null and bool(job.mark))
     if options.report == "-":
         streams.report(found.text)
     elif options.report is not None:
         from ..outputs.report_formats import spelled_for
 
-        files.write(options.report, spelled_for(options.report, found, list(options.sought), options.digests, options.taken))
+        files.write(options.report, spelled_for(options.report, found, list(options.sought), options.digests, options.taken, told))
     if found.outcome != "ended" and job.mark:
         from ..run.held_lines import held_lines
 
         lines = held_lines(job, found)
         put(b"".join([b"" if done.is_line_whole or not lines else b"\n", *(line + b"\n" for line in lines)]))
-    chosen, is_whole = None, True
-    if done.notes or done.files.files or options.out is not None:
-        from ..run.exit_status import chosen_status
-        from ..run.record_messages import tell_records
-        from ..outputs.library_notes import STATUS
+    is_whole = True
+    if done.files.files or options.out is not None:
+        from ..run.record_messages import put_files
 
-        chosen = chosen_status(job, found, done.notes)
-        is_whole = tell_records(job, done.notes, done.files, found, untold=STATUS if chosen is not None and chosen.is_of_all else "")
-    if done.has_null and job.mark:
-        tell(["bsprun: a NULL text was printed, as by puts or %s: the output has the bytes at address 0"])
+        put_files(job, done.files)
+        is_whole = done.files.is_put and done.files.is_whole
+    tell((line for _, line in told), "bsprun: ")
     is_told = tell_offsets(job, found, done.seconds)
     if options.summary or options.apart or options.warn or wants_counts(options) or (found.outcome != "ended" and chosen is None):
         from ..run.closing_messages import tell_of
@@ -198,6 +199,15 @@ def deliver(job: Job, done: Done) -> int:
         tell(["bsprun: not tried: other choices, because the run itself fails"])
     status = done.status if chosen is None else chosen.status
     return status if is_whole else status or REFUSED
+
+
+def noted(job: Job, done: Done, found: Report) -> tuple[Chosen | None, list[tuple[str, str]]]:
+    """The status that the program chose, and what is told of the notes of its library."""
+    from ..run.exit_status import chosen_status
+    from ..run.record_messages import told
+
+    chosen = chosen_status(job, found, done.notes)
+    return chosen, told(job, done.notes, done.files, found, untold=STATUS if chosen is not None and chosen.is_of_all else "")
 
 
 def is_tried(found: Report) -> bool:

@@ -4,6 +4,7 @@ from __future__ import annotations
 
 import argparse
 import contextlib
+import io
 import pathlib
 import re
 import shlex
@@ -13,7 +14,7 @@ from .. import children, emulator, files, limits, sealed_results
 from ..files import content_of
 from ..limits import MOST_PROGRAM, MOST_TABLE
 from ..machines import Family, family_named
-from ..options import COMPILING, P, Parser, listed, named, pair
+from ..options import COMPILING, Joined, P, Parser, listed, named, pair
 from ..prepare.clock_rate import has_clock
 from ..prices import Exact, G, L
 from ..prices import listed as prices_listed
@@ -66,7 +67,15 @@ def constant(text: str) -> tuple[str, list[str]]:
         raise argparse.ArgumentTypeError(f"{text!r}: {name!r} is not the name of a constant")
     if name in result_table.COLUMNS:
         raise argparse.ArgumentTypeError(f"{text!r}: {name} is a column of the table already: choose another name for the constant")
-    return name, list(dict.fromkeys(values.split(",")))
+    return name, values.split(",")
+
+
+def constants(given: list[tuple[str, list[str]]]) -> list[tuple[str, list[str]]]:
+    """The constants, each once, with all values that were given for it."""
+    found: dict[str, list[str]] = {}
+    for name, values in given:
+        found.setdefault(name, []).extend(values)
+    return [(name, list(dict.fromkeys(values))) for name, values in found.items()]
 
 
 def arguments(words: list[str]) -> argparse.Namespace:
@@ -82,11 +91,11 @@ def arguments(words: list[str]) -> argparse.Namespace:
     )
     add = parser.add_argument
     parser.section("settings")
-    add("-n", "--nodes", type=listed(P), metavar="LIST", help="numbers of nodes, as 1,2,4,8 or 1:8; default: those of --machine, or 1")
-    add("--g", type=prices_listed(G), metavar="LIST", help="prices of a byte of h, as 4, 3.875 or 31/8; default 1")
-    add("--l", type=prices_listed(L), metavar="LIST", help="prices of the end of a superstep; default 0")
-    add("--prices", type=pairs, metavar="G:L,..", help="pairs of prices, in addition to all combinations of --g and --l")
-    add("--machine", type=families, default=[], metavar="LIST", help="prices of machines, in addition to --g and --l: t3e takes the prices for each"
+    add("-n", "--nodes", type=listed(P), action=Joined, metavar="LIST", help="numbers of nodes, as 1,2,4,8 or 1:8; default: those of --machine, or 1")
+    add("--g", type=prices_listed(G), action=Joined, metavar="LIST", help="prices of a byte of h, as 4, 3.875 or 31/8; default 1")
+    add("--l", type=prices_listed(L), action=Joined, metavar="LIST", help="prices of the end of a superstep; default 0")
+    add("--prices", type=pairs, action=Joined, metavar="G:L,..", help="pairs of prices, in addition to all combinations of --g and --l")
+    add("--machine", type=families, action=Joined, default=[], metavar="LIST", help="prices of machines, in addition to --g and --l: t3e takes the prices for each"
         " number of nodes, and t3e-8 those for 8 nodes. t3e-2, t3e-4, .., t3e-64 are from the literature, and bspprobe measures yours")  # fmt: skip
     add("--interpolate", choices=["linear"], help="interpolate prices of --machine between the numbers of nodes that were measured; the table"
         " says so")  # fmt: skip
@@ -94,6 +103,7 @@ def arguments(words: list[str]) -> argparse.Namespace:
     add("--args", type=parted, action="append", metavar="TEXT", help="arguments of main, split as the shell does; can be repeated")
     add("--define", type=constant, action="append", default=[], metavar="N=100,1000", help="values of a compile-time constant of a .c program")
     add("--file", action="append", default=[], metavar="FILE", help="file that the program can open with fopen, in all runs")
+    add("--no-files", action="store_true", help="let programs write no files, and read only those that you give them")
     parser.section(COMPILING)
     parser.add_number("--stack", what="the room of the stack in bytes", least=limits.LEAST_STACK, most=limits.MOST_STACK,
         metavar="BYTES", help="stack of a .c program; default 1M, or 128K if --memory is less than 4M")  # fmt: skip
@@ -108,12 +118,13 @@ def arguments(words: list[str]) -> argparse.Namespace:
         " slurm is sbatch on a cluster; auto, the default, is parallel if it is installed, and plain otherwise")  # fmt: skip
     parser.add_number("--jobs", what="the number of runs at a time", least=1, most=100_000, default=0, metavar="COUNT", help="runs at a"
         " time; default: the number of processors")  # fmt: skip
-    add("--hosts", type=hosts, default=(), metavar="H1,H2", help="hosts for GNU parallel, by ssh; they need this folder and the program at the same paths")
+    add("--hosts", type=hosts, action=Joined, default=(), metavar="H1,H2", help="hosts for GNU parallel, by ssh; they need this folder and the program at the same paths")
     add("--sbatch", type=parted, default="", metavar="OPTIONS", help="more options of sbatch, as '--partition=short --time=10'")
     add("--script", action="store_true", help="write the script for sbatch, print how to start it, and run nothing")
     add("--folder", default=".bspsweep", metavar="FOLDER", help="where to cache results; default .bspsweep")
     add("program", metavar="PROGRAM", nargs="*", help="a program to run")
     options = parser.parse_args(words)
+    options.define = constants(options.define)
     if options.again is not None and table_record.without_aside(words):
         parser.error(f"--again takes the sweep from {options.again}, without {shlex.join(table_record.without_aside(words))}")
     if options.again is None and not options.program:
@@ -206,7 +217,7 @@ class Sweep:
             copy = "check-" + "".join(it if it.isalnum() else "-" for it in host)
             self.make(engine._replace(hosts=(host,)) if host else engine, self.places, copy)
             for run, place in self.places.items():
-                if place.found() is not None and place.found(copy) != place.found():
+                if place.found() is not None and place.figures(copy) != place.figures():
                     wrong.append(f"{run}: another result{' on ' + host if host else ''}: {place.file('json', copy)}")
         return wrong
 
@@ -218,6 +229,10 @@ class Sweep:
         """The files that programs looked for and nobody gave, with their digests."""
         return {name: content for it in self.found.values() if it is not None for name, content in it["sought"].items()}
 
+    def notes(self) -> list[str]:
+        """What the figures of runs rest on, if that may not be what was meant."""
+        return [*self.told_of_clocks(), *result_table.doubts(self.found)]
+
     def told_of_clocks(self) -> list[str]:
         """A line where programs read the clock, which counts in each run at prices that are not those of its points."""
         programs = dict.fromkeys(it.run.program for it in self.points if (it.g, it.l) != CLOCK_PRICES and it.run in self.places)
@@ -225,7 +240,7 @@ class Sweep:
         more = f" and {counted(len(names) - 1, 'more program')}" if names[1:] else ""
         g, l = CLOCK_PRICES
         return [
-            f"note: {names[0]}{more} may read the clock, which counts a byte of h as {g} and a superstep's end as {l} in all runs: if w depends on the"
+            f"{names[0]}{more} may read the clock, which counts a byte of h as {g} and a superstep's end as {l} in all runs: if w depends on the"
             " time, it is that of these prices"
         ] if names else []  # fmt: skip
 
@@ -285,7 +300,7 @@ def sweep(options: argparse.Namespace, words: list[str], before: table_record.Re
     is_whole = not wrong and None not in whole.found.values() and not whole.unplaced
     record = whole.write() if is_whole or not options.check else None
     is_same = record is None or before is None or tell_again(before, record)
-    tell(whole.told_of_clocks(), "bspsweep: ")
+    tell([*whole.notes(), *result_table.unasked(whole.found)], "bspsweep: note: ")
     stopped = result_table.stopped(whole.found)
     tell([*whole.unplaced, *result_table.failures(whole.places, whole.found), *stopped, *wrong], "bspsweep: ")
     if options.check:
@@ -309,15 +324,22 @@ def tell_again(before: table_record.Record, now: table_record.Record) -> bool:
     return is_same
 
 
+def recorded(words: list[str], path: str) -> argparse.Namespace:
+    """What the command of a record asks for, which is a table. With a help or a version the parser would end this, with status 0."""
+    with contextlib.suppress(SystemExit), contextlib.redirect_stdout(io.StringIO()):
+        options = arguments(words)
+        if options.again is None:
+            return options
+    raise table_record.no_record(path)
+
+
 def again(asked: argparse.Namespace) -> int:
     """Makes the table of a record once more, as the command line asks for it now."""
     before = table_record.read(asked.again)
     files.expect_ordinary(table_record.own_machines(before), asked.again)
     table_record.take_machines(before)
     words = before[table_record.COMMAND]
-    options = arguments(words)
-    if options.again is not None:
-        raise Refused(f"{asked.again} is not the record of a sweep")
+    options = recorded(words, asked.again)
     files.expect_ordinary([*options.program, *(options.input or []), *options.file], asked.again)
     for name in ("output", "folder", "engine", "jobs", "hosts", "sbatch", "check", "script"):
         setattr(options, name, getattr(asked, name))
@@ -331,6 +353,8 @@ def expect_used(options: argparse.Namespace) -> None:
         raise Refused("--sbatch is for Slurm: add --engine slurm, or leave it out")
     if options.hosts and options.script:
         raise Refused("--hosts is for GNU parallel, and --script writes a script for Slurm: leave one of them out")
+    if options.jobs and options.engine == engines.PLAIN and not options.script:
+        raise Refused("--engine plain makes one run after another, whatever --jobs says: leave one of them out")
     if options.interpolate and not options.machine:
         raise Refused("--interpolate is for the prices of --machine: add --machine, or leave it out")
 

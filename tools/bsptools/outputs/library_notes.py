@@ -15,6 +15,14 @@ from ..refusals import counted
 from .output_records import Record
 
 ASKED, REFUSED, ABSENT, UNWRITTEN, LOST, PENDING, EMPTY, CLOCK, STATUS, READ, LONG = "a", "m", "r", "w", "l", "p", "i", "c", "s", "d", "o"
+# That of bsprun itself, where a text that was printed is NULL.
+NO_TEXT = "n"
+# Notes by which the figures of a run may not be those of the program with its input, and what such a run did.
+DOUBTS = {
+    EMPTY: "found no input", ABSENT: "did not find a file", REFUSED: "got no memory", UNWRITTEN: "could not write a file",
+    LOST: "could not read a file again", PENDING: "made requests that have no effect", READ: "read a number that does not fit into a long",
+    NO_TEXT: "printed a NULL text",
+}  # fmt: skip
 MOST_TOLD = 10
 # How many bytes of notes are kept, each with its numbers.
 MOST_KEPT = 1 << 22
@@ -118,7 +126,12 @@ class NoteTeller:
         self.given, self.seconds, self.where = given, seconds, where
 
     def lines(self, notes: Iterable[Note]) -> list[str]:
-        """A line for each kind of note, with how many more ranks made it."""
+        """What is told on standard error."""
+        return [f"bsprun: {line}" for _, line in self.told(notes)]
+
+    def told(self, notes: Iterable[Note]) -> list[tuple[str, str]]:
+        """A line for each kind of note, with how many more ranks made it, and what the note is; that is nothing in a last line, of kinds that
+        are too many."""
         kinds: dict[tuple[str, int, str], list[Note]] = {}
         for it in notes:
             # A rank that looks for a file of its own, and writes it later, begins with nothing, as it means to.
@@ -129,8 +142,8 @@ class NoteTeller:
         for same in list(kinds.values())[:MOST_TOLD]:
             ranks = len({it.rank for it in same}) - 1
             more = f"; the same on {counted(ranks, 'more rank')}" if ranks else ""
-            lines.append(f"bsprun: rank {same[0].rank}, superstep {same[0].superstep}: {self.text(same[0])}{more}")
-        return lines + ([f"bsprun: and {len(kinds) - MOST_TOLD} more of this kind"] if len(kinds) > MOST_TOLD else [])
+            lines.append((same[0].what, f"rank {same[0].rank}, superstep {same[0].superstep}: {self.text(same[0])}{more}"))
+        return lines + ([("", f"and {len(kinds) - MOST_TOLD} more of this kind")] if len(kinds) > MOST_TOLD else [])
 
     def text(self, note: Note) -> str:
         """What is told of a note."""

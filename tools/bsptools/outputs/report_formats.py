@@ -11,11 +11,12 @@ from typing import Any
 from ..files import whole
 from ..limits import MOST_NODES
 from ..refusals import Refused, why_unfit
+from .library_notes import DOUBTS
 from .report import MOST_COST, Report, Superstep, checked, part
 
-# In a report as JSON: the files that the program looked for and nobody gave, and the digests of those that it got all the same; and the nodes
-# that it was run on, where it takes fewer than it was given.
-SOUGHT, GIVEN, TAKEN = "sought", "given", "nodes"
+# In a report as JSON: the files that the program looked for and nobody gave, and the digests of those that it got all the same; the nodes that
+# it was run on, where it takes fewer than it was given; and of what bsprun tells, that by which the figures may be in doubt.
+SOUGHT, GIVEN, TAKEN, NOTES = "sought", "given", "nodes", "notes"
 
 
 def read(content: bytes) -> Report | None:
@@ -60,11 +61,15 @@ def as_csv(report: Report) -> bytes:
     return text.getvalue().encode()
 
 
-def as_json(report: Report, sought: Sequence[str] = (), given: Mapping[str, str] | None = None, taken: int = 0) -> bytes:
+def as_json(
+    report: Report, sought: Sequence[str] = (), given: Mapping[str, str] | None = None, taken: int = 0, told: Sequence[tuple[str, str]] = ()
+) -> bytes:
     """An object with the supersteps, the total and the outcome. If there are any, it has the files that the program looked for and nobody gave,
-    and the digests of those that it got all the same; and how many nodes it takes, if these are fewer than it was given."""
+    and the digests of those that it got all the same; how many nodes it takes, if these are fewer than it was given; and what was told of it
+    by which its figures may be in doubt, by what that is and a line."""
     supersteps = [{"superstep": it.number, **it.costs, "end": it.end} for it in report.supersteps]
-    more: dict[str, object] = {SOUGHT: list(sought), GIVEN: dict(given or {}), TAKEN: taken}
+    notes = [{"what": DOUBTS[what], "text": line} for what, line in told if what in DOUBTS]
+    more: dict[str, object] = {SOUGHT: list(sought), GIVEN: dict(given or {}), TAKEN: taken, NOTES: notes}
     content = {"supersteps": supersteps, "total": report.total, "outcome": report.outcome, **{name: it for name, it in more.items() if it}}
     return json.dumps(content, indent=1).encode() + b"\n"
 
@@ -81,10 +86,20 @@ def taken_in(content: bytes) -> int:
     return whole(json.loads(content).get(TAKEN, 0), MOST_NODES)
 
 
-def spelled_for(path: str, report: Report, sought: Sequence[str] = (), given: Mapping[str, str] | None = None, taken: int = 0) -> bytes:
+def notes_in(content: bytes) -> tuple[list[list[str]], bytes]:
+    """The notes of a report that `as_json` made, each as what the run did and the line of it; and the report without them. They tell where
+    something was, if that is known on this host."""
+    found = json.loads(content)
+    notes = [[str(it["what"]), str(it["text"])] for it in found.pop(NOTES, [])]
+    return notes, json.dumps(found).encode()
+
+
+def spelled_for(
+    path: str, report: Report, sought: Sequence[str] = (), given: Mapping[str, str] | None = None, taken: int = 0, told: Sequence[tuple[str, str]] = ()
+) -> bytes:
     """The report as the name of its file asks for: `.csv`, `.json`, or else the emulator's lines."""
     if path.endswith(".csv"):
         return as_csv(report)
     if path.endswith(".json"):
-        return as_json(report, sought, given, taken)
+        return as_json(report, sought, given, taken, told)
     return report.text

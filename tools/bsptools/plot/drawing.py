@@ -10,11 +10,11 @@ from typing import TypeVar
 from .. import files
 from ..counts.source_listing import Listing
 from ..prices import spelled
-from ..refusals import Refused, tell
+from ..refusals import Refused, counted, tell
 from . import annotated_source, byte_matrix, cost_split, line_bars, page, paper_pictures, picture_options, picture_origin, plot_inputs
 from . import superstep_costs, sweep_axes, sweep_curves, sweep_table, timeline
 from .canvas import Picture, thousands
-from .profile import Superstep
+from .profile import Reading, Superstep
 from .superstep_costs import Cost, Prices, total
 
 # A picture has at most so many supersteps, a timeline so many bars, and a sweep so many lines.
@@ -58,10 +58,23 @@ class Plan:
             raise Refused(f"{self.source.name} has no costs of supersteps: give a profile or a report for --costs")
         return self.some(self.source.costs, MOST_SUPERSTEPS)
 
+    def chosen(self, them: list[Shown]) -> list[Shown]:
+        """Those of these supersteps that were asked for."""
+        first, last = self.options.supersteps
+        return [it for it in them if it.number >= first and (last is None or it.number <= last)]
+
+    @property
+    def span(self) -> str:
+        """The supersteps that were asked for, if these are not all."""
+        costs = self.source.costs
+        them = [it.number for it in self.chosen(costs)]
+        if not them or len(them) == len(costs):
+            return ""
+        return f"supersteps {them[0]} to {them[-1]}" if them[1:] else f"superstep {them[0]}"
+
     def some(self, them: list[Shown], most: int) -> list[Shown]:
         """The first of these that were asked for, with a line if there are more."""
-        first, last = self.options.supersteps
-        them = [it for it in them if it.number >= first and (last is None or it.number <= last)]
+        them = self.chosen(them)
         if not them:
             raise Refused(f"{self.source.name} has no such supersteps")
         if len(them) > most:
@@ -127,6 +140,17 @@ class Plan:
         return sweep_curves.compare(self.lines(), self.title, self.options.rate)
 
 
+def chosen(plan: Plan, pictures: str) -> list[tuple[str, str]]:
+    """Which supersteps these pictures of a page show, if they leave others out."""
+    return [(pictures, f"{plan.span} of {len(plan.source.costs)}")] if plan.span else []
+
+
+def of_lines(plan: Plan) -> list[tuple[str, str]]:
+    """What the costs of lines on a page are of, if the costs of supersteps beside them are of less."""
+    parts = ["of all supersteps"] * bool(plan.span) + ["with printing"] * plan.source.is_apart
+    return [("costs of lines", ", ".join(parts))] if parts else []
+
+
 def settings(plan: Plan) -> list[tuple[str, str]]:
     """What stands at the top of a page."""
     source = plan.source
@@ -135,8 +159,12 @@ def settings(plan: Plan) -> list[tuple[str, str]]:
     if ran:
         known.append(("nodes", str(ran.nodes)))
     if source.costs:
-        whole = f"{thousands(total(source.costs, plan.prices))} ticks in {len(source.costs)} supersteps"
+        them = f"{'all ' if plan.span else ''}{counted(len(source.costs), 'superstep')}"
+        whole = f"{thousands(total(source.costs, plan.prices))} ticks in {them}"
+        known += [("h", "what a rank moves to itself counts, too")] * (plan.options.h is Reading.ALL)
         known += [("g", f"{spelled(plan.prices.g)} ticks a byte"), ("l", f"{spelled(plan.prices.l)} ticks a superstep"), ("total", whole)]
+        is_other = source.total not in (0, total(source.costs, plan.prices))
+        known += [("total of the report", f"{thousands(source.total)} ticks, at other prices: give these by --g and --l")] * is_other
         known += [("printing", it) for it in [printing(plan)] if it]
     return known + ([("outcome", source.outcome)] if source.outcome else [])
 
@@ -144,7 +172,8 @@ def settings(plan: Plan) -> list[tuple[str, str]]:
 def printing(plan: Plan) -> str:
     """What a page says of the work of output functions, if that is known."""
     printed, w = superstep_costs.printed(plan.source.costs), sum(it.w for it in plan.source.costs)
-    share = f"{thousands(printed)} of the {thousands(w)} ticks of w, {100 * printed / max(w, 1):.1f} %; --apart printing leaves it out"
+    of_all = " in all supersteps" if plan.span else ""
+    share = f"{thousands(printed)} of the {thousands(w)} ticks of w{of_all}, {100 * printed / max(w, 1):.1f} %; --apart printing leaves it out"
     return "left out of w" if plan.source.is_apart else share if printed else ""
 
 
@@ -156,13 +185,15 @@ def sections(plan: Plan) -> list[page.Section]:
     if plan.source.costs:
         found.append(page.Section("What the supersteps cost", page.COSTS, page.inline(plan.split(), "costs")))
     if plan.source.profile:
-        found.append(page.Section("Who sent to whom", page.MATRIX, page.inline(plan.matrix(), "matrix")))
+        text = page.MATRIX.format(these=plan.span or "all supersteps together", kept=page.KEPT[plan.options.h])
+        found.append(page.Section("Who sent to whom", text, page.inline(plan.matrix(), "matrix")))
     if plan.source.rows:
         found.append(page.Section("Over the number of nodes", page.SWEEP, page.inline(plan.sweep(), "sweep")))
         if sweep_table.crossings(plan.lines()):
             found.append(page.Section("One against another", page.COMPARE, page.inline(plan.compare(), "compare")))
         return [*found, page.sweep_table(plan.source.rows)]
-    return [*found, page.cost_table(plan.source.costs, plan.source.profile, plan.prices, plan.options.h)]
+    table = page.cost_table(plan.source.costs, plan.source.profile, plan.prices, plan.options.h)
+    return [*found, table._replace(text=f"{table.text} The table has all supersteps.") if plan.span else table]
 
 
 def source_sections(plan: Plan) -> list[page.Section]:
@@ -172,14 +203,14 @@ def source_sections(plan: Plan) -> list[page.Section]:
     return [costs, dear, *annotated_source.sections(plan.listing())]
 
 
-def write_page(plan: Plan, path: str, made: Callable[[Plan], list[page.Section]], style: str = "") -> None:
-    """Writes a page of these sections."""
+def write_page(plan: Plan, path: str, made: Callable[[Plan], list[page.Section]], more: list[tuple[str, str]], style: str = "") -> None:
+    """Writes a page of these sections, with more settings."""
     # A page shows all runs of a sweep.
     untitled = Plan(argparse.Namespace(**{**vars(plan.options), "title": ""}), plan.source, sweep_table.left_out(plan.source.rows))
     parts = made(untitled)
     drawn = [("drawn", note) for note in untitled.notes]
     plan.notes.extend(it for it in untitled.notes if it not in plan.notes)
-    files.write(path, page.written(plan.title or plan.source.name, settings(plan) + drawn, parts, style))
+    files.write(path, page.written(plan.title or plan.source.name, settings(plan) + more + drawn, parts, style))
 
 
 def asked(options: argparse.Namespace, is_sweep: bool) -> list[str]:
@@ -217,7 +248,7 @@ def draw(options: argparse.Namespace) -> None:
         for name in papers:
             paper_pictures.write(name, plan.rows(), options, getattr(options, name), plan.origin(name))
     if options.page:
-        write_page(plan, options.page, source_sections, annotated_source.style(plan.listing()))
+        write_page(plan, options.page, source_sections, chosen(plan, "picture of costs") + of_lines(plan), annotated_source.style(plan.listing()))
     if options.html:
-        write_page(plan, options.html, sections)
+        write_page(plan, options.html, sections, chosen(plan, "pictures"))
     tell(plan.notes, "bspplot: ")

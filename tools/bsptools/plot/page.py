@@ -30,10 +30,11 @@ LINES = (
     " library functions that they call (grey), whose work is apportioned by numbers of calls where several lines called them."
 )
 MATRIX = (
-    "How many bytes went from each rank (row) to each rank (column) in all supersteps together. The bars on the right are what each rank"
+    "How many bytes went from each rank (row) to each rank (column) in {these}. The bars on the right are what each rank"
     " sent, and those below what each received; the greatest of all is orange. In one superstep it is h: the fullest row or column. In"
-    " several, h is made by one rank after another, so that its sum may be more. What is hatched stayed at its rank and is not in h."
+    " several, h is made by one rank after another, so that its sum may be more. {kept}"
 )
+KEPT = {Reading.OTHERS: "What is hatched stayed at its rank and is not in h.", Reading.ALL: "What stayed at its rank is in h, too."}
 SWEEP = (
     "The speedup is the total on the fewest nodes divided by the total on so many. The efficiency is the speedup divided by how many times"
     " more nodes there are: 1 is the best that can be hoped for. On a logarithmic axis equal steps are equal factors: from 1 to 2 it is as"

@@ -17,7 +17,7 @@ from . import profile, superstep_costs, sweep_table
 @dataclass(frozen=True)
 class Source:
     """What a file tells. A profile and the costs of lines tell the costs of supersteps too; a report has these alone, and the table of a
-    sweep has none."""
+    sweep has none. A report may have a total, at prices of its own."""
 
     name: str
     costs: list[superstep_costs.Cost] = field(default_factory=list)
@@ -26,6 +26,7 @@ class Source:
     listing: source_listing.Listing | None = None
     outcome: str = ""
     is_apart: bool = False
+    total: int = 0
     digest: str = ""
 
     def without_printing(self) -> Source:
@@ -64,7 +65,7 @@ def understood(name: str, content: bytes, reading: profile.Reading) -> Source:
     if known is None:
         raise Refused("this is not a profile, a report, costs of lines or the table of a sweep")
     expect_reading(reading, reading_of(known), "a report has")
-    return Source(name, superstep_costs.of_report(known), outcome=known.outcome)
+    return Source(name, superstep_costs.of_report(known), outcome=known.outcome, total=known.total)
 
 
 def expect_reading(asked: profile.Reading, told: profile.Reading, has: str) -> None:

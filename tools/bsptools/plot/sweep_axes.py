@@ -68,21 +68,25 @@ class Frame:
         self.columns = list(dict.fromkeys([PROGRAM, NODES, *PRICES, *(name for it in rows for name, _ in it.settings)]))
         for name in [axes.x, *(axes.by or ()), *axes.panels, *axes.only]:
             self.expect_column(name)
+        self.expect_values(rows)
         self.chosen = [it for it in rows if all(self.cell(it, name) in values for name, values in axes.only.items())]
         if rows and not self.chosen:
-            raise Refused(self.none(rows))
+            raise Refused(f"no run in it has {', '.join(f'{name} {values[0]}' for name, values in axes.only.items())}")
         self.rows = [it for it in self.chosen if it.total is not None]
         if not self.rows:
             raise Refused(none_ended(self.chosen))
 
-    def none(self, rows: list[Row]) -> str:
-        """Why no run has the values that were asked for, and what there is."""
+    def expect_values(self, rows: list[Row]) -> None:
+        """Refuses a value that was asked for and no run has, with what there is."""
         for name, values in self.axes.only.items():
-            there = list(dict.fromkeys(self.cell(it, name) or "none" for it in rows))
-            if not set(values) & {self.cell(it, name) for it in rows}:
-                more = f" and {len(there) - MOST_NAMED} more" if len(there) > MOST_NAMED else ""
-                return f"no run in it has {name} {values[0]}; there is {name} {', '.join(there[:MOST_NAMED])}{more}"
-        return f"no run in it has {', '.join(f'{name} {values[0]}' for name, values in self.axes.only.items())}"
+            known = dict.fromkeys(self.cell(it, name) for it in rows)
+            there = [it or "none" for it in known]
+            for value in values if rows else ():
+                if value not in known:
+                    more = f" and {len(there) - MOST_NAMED} more" if len(there) > MOST_NAMED else ""
+                    is_other = "=" in value and value.partition("=")[0] in self.columns
+                    again = f"; each column has an --only of its own, as --only {value}" if is_other else ""
+                    raise Refused(f"no run in it has {name} {value}; there is {name} {', '.join(there[:MOST_NAMED])}{more}{again}")
 
     def expect_column(self, name: str) -> None:
         """Refuses a column that the table does not have."""

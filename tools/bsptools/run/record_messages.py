@@ -16,18 +16,15 @@ from ..refusals import counted, tell
 MOST_NAMED = 5
 
 
-def tell_records(job: Job, made: KeptNotes, written: Files, found: Report, untold: str = "") -> bool:
-    """Puts the files that were written where they belong, and tells what the program's library noted, but for one kind of notes; whether no
-    file is lacking."""
+def told(job: Job, made: KeptNotes, written: Files, found: Report, untold: str = "") -> list[tuple[str, str]]:
+    """What is told of the notes of the program's library, but for one kind of notes."""
     options = job.options
-    put_files(job, written)
 
     def where(note: Note) -> str:
         return place_of(job, found, note)
 
     teller = NoteTeller(job.code, options.memory, written.writers(), options.input, seconds(options), where)
-    tell(teller.lines(it for it in made if it.what != untold))
-    return written.is_put and written.is_whole
+    return teller.told(it for it in made if it.what != untold)
 
 
 def put_files(job: Job, written: Files) -> None:

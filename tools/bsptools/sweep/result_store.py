@@ -15,6 +15,7 @@ from .. import limits, sealed_results
 from ..emulator import proved_program
 from ..files import content_of, named_content, own_content, put
 from ..limits import MOST_INPUT, MOST_PROGRAM, MOST_TABLE
+from ..outputs.report_formats import NOTES
 from ..prepare.given_files import is_file, with_others
 from ..sealed_results import digest
 from . import result_folders
@@ -86,6 +87,11 @@ class Place(NamedTuple):
         record = self._kept(copy)
         return record if record is not None and not others_now(record["sought"]) else None
 
+    def figures(self, copy: str = MAIN) -> Record | None:
+        """What came of it but for the notes, whose lines tell where something was, if a host knows that."""
+        record = self.found(copy)
+        return record and {**record, NOTES: []}
+
     def _kept(self, copy: str) -> Record | None:
         record: Record | None = sealed_results.found(self.file("json", copy), self.folder.name)
         return record if record is not None and "sought" in record else None
@@ -143,7 +149,7 @@ class Store:
         words = ["--nodes", str(run.nodes), "--memory", str(options.memory), "--limit", str(options.limit)]
         is_large = options.large or limits.are_passed(run.nodes, options.memory)
         words += ["--format", run.program.kind, *(["--float"] if options.float else [])]
-        words += [*(["--atomic"] if options.atomic else []), *([limits.OPTION] if is_large else [])]
+        words += [*(["--no-files"] if options.no_files else []), *(["--atomic"] if options.atomic else []), *([limits.OPTION] if is_large else [])]
         # bsprun gives the files that arguments name, too.
         named = files_named(run.words)
         programs, given = [self.emulator, image], [*filter(None, [run.given]), *options.file, *named]

@@ -5,6 +5,7 @@ from __future__ import annotations
 import csv
 import io
 
+from ..outputs.report_formats import NOTES
 from ..prices import spelled
 from ..refusals import counted
 from .result_store import Place, Record
@@ -52,6 +53,27 @@ def failures(places: dict[Run, Place], found: dict[Run, Record | None]) -> list[
 def stopped(found: dict[Run, Record | None]) -> list[str]:
     """A line where runs were made that did not end well, with the first of them."""
     ends = {run: it["outcome"] for run, it in found.items() if it is not None}
-    first, *more = [f"{run}: {outcome}" for run, outcome in ends.items() if outcome != "ended"] or [""]
-    count = f"{1 + len(more)} of {counted(len(ends), 'run')} did not end well"
-    return [f"{count}{', the first one ' if more else ': '}{first}"] if first else []
+    return first_of({run: outcome for run, outcome in ends.items() if outcome != "ended"}, len(ends), "did not end well")
+
+
+def doubts(found: dict[Run, Record | None]) -> list[str]:
+    """A line for each kind of notes by which the figures of runs may be in doubt, with the first of these runs and what bsprun says of it."""
+    made = {run: it.get(NOTES, []) for run, it in found.items() if it is not None}
+    kinds: dict[str, dict[Run, str]] = {}
+    for run, notes in made.items():
+        for what, line in notes:
+            kinds.setdefault(what, {}).setdefault(run, line)
+    return [line for what, told in kinds.items() for line in first_of(told, len(made), what)]
+
+
+def unasked(found: dict[Run, Record | None]) -> list[str]:
+    """A line where programs read files that nobody gave them: a table shows some of what is in them."""
+    files = {run: [name for name, content in it["sought"].items() if content] for run, it in found.items() if it is not None}
+    told = {run: names[0] + (f" and {counted(len(names) - 1, 'more file')}" if names[1:] else "") for run, names in files.items() if names}
+    return [f"{it}; --file gives them, and --no-files forbids them" for it in first_of(told, len(files), "read files that nobody gave")]
+
+
+def first_of(told: dict[Run, str], count: int, what: str) -> list[str]:
+    """A line where some of so many runs did something, with the first of them and what is told of it."""
+    first = next((f"{run}: {text}" for run, text in told.items()), "")
+    return [f"{len(told)} of {counted(count, 'run')} {what}{', the first one ' if len(told) > 1 else ': '}{first}"] if told else []

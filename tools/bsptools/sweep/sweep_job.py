@@ -17,7 +17,7 @@ from ..files import believed_content, content_of, put, remove
 from ..limits import MOST_PROGRAM, MOST_TABLE
 from ..options import FLAGS
 from ..outputs.output_records import writes_files
-from ..outputs.report_formats import read, sought_in, taken_in
+from ..outputs.report_formats import NOTES, notes_in, read, sought_in, taken_in
 from ..refusals import REFUSED, Refused, counted
 from ..sealed_results import digest
 from .result_store import Place, Record, changed_line, others_now
@@ -26,6 +26,8 @@ from .result_store import Place, Record, changed_line, others_now
 PRICES = ["--g", "1", "--l", "1"]
 # The name by which each program is called, wherever its image lies: it has a place in the program's memory, and so a part in its costs.
 NAME = "program"
+# Of a note.
+MOST_LETTERS = 1000
 
 
 def make(folder: str, copy: str) -> int:
@@ -38,7 +40,8 @@ def make(folder: str, copy: str) -> int:
         report = temp / "report.json"
         words = [emulator.program("bsprun"), *PRICES, f"--argv0={NAME}", "--report", str(report), *job["words"], job["image"], *job["args"]]
         # Runs go on beside one another, and a result stands for a run: what their programs write would be a file of one of them.
-        words[1:1] = ["--out", str(temp / "files")] if writes_files(content_of(job["image"], MOST_PROGRAM)) else []
+        is_writing = "--no-files" not in job["words"] and writes_files(content_of(job["image"], MOST_PROGRAM))
+        words[1:1] = ["--out", str(temp / "files")] if is_writing else []
         environment = {**os.environ, "BSPEMU": job["emulator"], FLAGS: ""}
         done = children.call(words, stdout=subprocess.PIPE, stderr=subprocess.PIPE, cwd=job["folder"], env=environment)
         content = report.read_bytes() if report.exists() else b""
@@ -81,18 +84,21 @@ def changed(job: dict[str, Any], sought: Mapping[str, str]) -> str:
 
 
 def record(report: bytes, done: subprocess.CompletedProcess[bytes]) -> Record:
-    """What came of a run: the same bytes on every host."""
+    """What came of a run: the same bytes on every host, but for the lines of notes."""
     found = read(report)
     if found is None:
         raise Refused("bsprun wrote no report")
     sums = {name: sum(it.costs[name] for it in found.supersteps) for name in found.supersteps[0].costs}
     if found.total != sums["w"] + sums["h"] + len(found.supersteps):
         raise Refused("the total of the report is not the sum of its supersteps")
+    notes, figures = notes_in(report)
     return {
         "outcome": found.outcome,
         "status": done.returncode,
         "supersteps": len(found.supersteps),
         "costs": sums,
         "output": hashlib.sha256(done.stdout).hexdigest(),
-        "report": hashlib.sha256(report).hexdigest(),
+        "report": hashlib.sha256(figures).hexdigest(),
+        # A name in a line may be of any length.
+        NOTES: [[what, line if len(line) <= MOST_LETTERS else f"{line[:MOST_LETTERS]}.."] for what, line in notes],
     }

@@ -94,6 +94,8 @@ def expect_few(options: argparse.Namespace) -> None:
 
 
 def points(options: argparse.Namespace, programs: list[Program]) -> list[Point]:
-    """All points in the order of the table: by program, input, arguments and prices, and over the nodes within these."""
+    """All points in the order of the table: by program, input, arguments and prices, and over the nodes within these. What is given twice is
+    one point."""
     lists = (programs, options.input or [""], options.args or [""], priced(options))
-    return [Point(Run(program, it.nodes, given, words), it.g, it.l, it.machine) for program, given, words, it in itertools.product(*lists)]
+    found = (Point(Run(program, it.nodes, given, words), it.g, it.l, it.machine) for program, given, words, it in itertools.product(*lists))
+    return list(dict.fromkeys(found))

@@ -26,8 +26,6 @@ DEVICES = ("/dev/", "/proc/")
 DIGEST, DIGITS = re.compile("[0-9a-f]{64}"), 12
 # How names of images begin in a list of differences, and of how many each has its line: a changed header changes all of them.
 IMAGES, MOST_IMAGES = "images: ", 3
-# Options that ask for something else than a table: with one of them none would be made, and the status would be 0.
-ASKING = {"-h", "--help", "--version"}
 # Options that say who makes the runs and where the table goes, with how many words follow each. None of them changes the table.
 ASIDE = {"-o": 1, "--output": 1, "--folder": 1, "--engine": 1, "--jobs": 1, "--hosts": 1, "--sbatch": 1, "--again": 1, "--script": 0, "--check": 0}
 
@@ -58,9 +56,14 @@ def read(path: str) -> Record:
     """A record, as `made` makes it."""
     found = _parsed(path)
     words = (found or {}).get(COMMAND)
-    if found is None or MADE_BY not in found or not isinstance(words, list) or not all(map(_is_word, words)) or not ASKING.isdisjoint(words):
-        raise Refused(f"{path} is not the record of a table, which bspsweep -o FILE writes into FILE.json")
+    if found is None or MADE_BY not in found or not isinstance(words, list) or not all(map(_is_word, words)):
+        raise no_record(path)
     return found
+
+
+def no_record(path: str) -> Refused:
+    """The refusal of a file that no sweep has written as a record."""
+    return Refused(f"{path} is not the record of a table, which bspsweep -o FILE writes into FILE.json")
 
 
 def _is_word(it: object) -> bool:

@@ -6,6 +6,7 @@ import argparse
 import functools
 import os
 import pathlib
+import warnings
 from typing import TYPE_CHECKING, Any, Dict, List, Mapping, NamedTuple, Optional, Sequence, Union
 
 from bsptools import children, limits
@@ -75,7 +76,11 @@ def run(
     words = ["-n", str(nodes), *(f"-D{name}={value}" for name, value in (defines or {}).items())]
     words += [it for name in several(files) for it in ("--file", os.fspath(name))]
     given = input.encode() if isinstance(input, str) else input if isinstance(input, bytes) else pathlib.Path(input).read_bytes()
-    return made(Command([*words, *more], os.fspath(program), parted(args), given), check)
+    found = made(Command([*words, *more], os.fspath(program), parted(args), given), check)
+    for name in defines or {}:
+        if f'"{name}" redefined' in found.told:
+            warnings.warn(f"{os.fspath(program)} defines {name} itself, so `defines` does not change it", stacklevel=2)
+    return found
 
 
 def expect_free(options: Sequence[str]) -> None:

@@ -22,8 +22,8 @@ AT_FDCWD, RENAME_EXCHANGE = -100, 2
 # The device of /dev/tty, and the first major number of terminals in windows.
 OWN_TERMINAL, FIRST_PTS = os.makedev(5, 0), 136
 GONE = "the current folder no longer exists"
-# Where the files of the system are, which are no person's, and may differ from host to host.
-OF_SYSTEM = ("/proc/", "/sys/", "/dev/")
+# Where the files of the system are, which are no person's, and may differ from host to host; and a folder there in which people's are.
+OF_SYSTEM, SHARED = ("/proc/", "/sys/", "/dev/"), "/dev/shm/"
 
 
 class Folder(NamedTuple):
@@ -76,18 +76,19 @@ def believed_content(path: str | os.PathLike[str], most: int) -> bytes:
 def named_content(path: str | os.PathLike[str], most: int) -> bytes:
     """The same of a file that another file names, and no person. A pipe or a device is refused, which may have no end, and a file of the
     system."""
-    return _ordinary(path, most)
+    return _ordinary(path, most, is_named=True)
 
 
 def is_of_system(path: str | os.PathLike[str]) -> bool:
     """Whether a path leads, perhaps by links, to a file of the system and no person's: it may have the environment, with passwords."""
-    return os.fspath(os.path.realpath(path)).startswith(OF_SYSTEM)
+    place = os.fsdecode(os.path.realpath(path))
+    return place.startswith(OF_SYSTEM) and not place.startswith(SHARED)
 
 
-def _ordinary(path: str | os.PathLike[str], most: int, flags: int = 0, is_believed: bool = False) -> bytes:
+def _ordinary(path: str | os.PathLike[str], most: int, flags: int = 0, is_believed: bool = False, is_named: bool = False) -> bytes:
     with about(path), os.fdopen(os.open(path, os.O_RDONLY | os.O_NONBLOCK | flags), "rb") as file:
         found = os.fstat(file.fileno())
-        if not stat.S_ISREG(found.st_mode) or is_of_system(path):
+        if not stat.S_ISREG(found.st_mode) or is_named and is_of_system(path):
             raise Refused(f"{os.fspath(path)} is not a regular file")
         if is_believed and (found.st_uid != os.geteuid() or found.st_mode & own_folders.OTHERS_WRITE):
             raise Refused(f"{os.fspath(path)} belongs to another user, or other users may write to it")

@@ -5,6 +5,7 @@ from __future__ import annotations
 import argparse
 import contextlib
 import io
+import os
 import pathlib
 import re
 import shlex
@@ -340,7 +341,8 @@ def again(asked: argparse.Namespace) -> int:
     table_record.take_machines(before)
     words = before[table_record.COMMAND]
     options = recorded(words, asked.again)
-    files.expect_ordinary([*options.program, *(options.input or []), *options.file], asked.again)
+    given = filter(os.path.isfile, (it for text in options.args or [] for it in shlex.split(text)))
+    files.expect_ordinary([*options.program, *(options.input or []), *options.file, *given], asked.again)
     for name in ("output", "folder", "engine", "jobs", "hosts", "sbatch", "check", "script"):
         setattr(options, name, getattr(asked, name))
     expect_outputs(options, [asked.again])

@@ -64,7 +64,7 @@ def files_read(options: argparse.Namespace) -> list[str]:
 
 def is_given(name: str) -> bool:
     """Whether a name that stands among others is that of a file which a program gets: no link to a file of the system."""
-    return os.path.isfile(name) and not (is_of_system(name) and not os.path.abspath(name).startswith(OF_SYSTEM))
+    return os.path.isfile(name) and (not is_of_system(name) or os.path.abspath(name).startswith(OF_SYSTEM))
 
 
 def is_file(name: str) -> bool:

@@ -8,6 +8,7 @@ import os
 import pathlib
 import re
 import subprocess
+from collections.abc import Mapping
 from typing import NamedTuple
 
 from .. import children, emulator
@@ -61,8 +62,29 @@ def programs(options: argparse.Namespace, folder: pathlib.Path) -> list[Program]
     lines = told(found)
     if all(it.why for it in found):
         raise Refused(*lines)
-    tell(lines, "bspsweep: ")
+    tell([*lines, *unused(found, names)], "bspsweep: ")
     return found
+
+
+def unused(them: list[Program], names: list[str]) -> list[str]:
+    """A line for each program and constant, if all values of the constant make the same program, or no text of the program has its name."""
+    lines = []
+    for program in dict.fromkeys(it.name for it in them):
+        same = [it for it in them if it.name == program and not it.why]
+        texts = {text for it in same for text, _ in it.texts}
+        for name in names:
+            images: dict[tuple[tuple[str, str], ...], set[pathlib.Path]] = {}
+            for it in same:
+                images.setdefault(tuple(pair for pair in it.defines if pair[0] != name), set()).add(it.image)
+            is_one = len(same) > len(images) and all(len(it) == 1 for it in images.values())
+            if same and (is_one or not any(has_word(text, name) for text in texts)):
+                lines.append(f"note: {program} may not use the constant {name}: is the name right?")
+    return lines
+
+
+def has_word(path: str, name: str) -> bool:
+    """Whether a text has a name."""
+    return re.search(rf"\b{name}\b".encode(), content_of(path, MOST_PROGRAM)) is not None
 
 
 def expect_same_texts(them: list[Program]) -> None:
@@ -108,10 +130,21 @@ def compiled(name: str, defines: tuple[tuple[str, str], ...], options: argparse.
             why = (f"{' '.join([name, *constants])} was not compiled", *lines_of(done.stdout, source))
             return Program(name, defines, why=why, is_compiled=True, texts=((name, text),))
         content, headers = content_of(target, MOST_PROGRAM), headers_of(name, made_of)
+        own = own_values(words[: 1 + len(constants)], source, environment) if constants else {}
+    for constant, value in defines:
+        if constant in own and own[constant] != value.split():
+            why = (f"{name} -D{constant}={value} is not run", f"{name} defines {constant} itself: put #ifndef {constant} before that, and #endif behind it")
+            return Program(name, defines, why=why, is_compiled=True, texts=((name, text),))
     image = result_folders.part(folder, "programs") / f"{pathlib.Path(name).stem}-{digest(content)[:16]}.elf"
     put(image, content)
     texts = ((name, text), *((it, digest_of(it)) for it in headers))
     return Program(name, defines, image, "elf", is_compiled=True, headers=headers, texts=texts)
+
+
+def own_values(words: list[str], source: str, environment: Mapping[str, str]) -> dict[str, list[str]]:
+    """The macros of a text at its end, as GCC has them with these options: words by names."""
+    done = children.call([*words, "-E", "-dM", source], stdout=subprocess.PIPE, stderr=subprocess.DEVNULL, env=environment)
+    return {it[1]: it[2:] for it in (line.split() for line in done.stdout.decode(errors="replace").splitlines()) if len(it) > 1}
 
 
 def headers_of(name: str, made_of: pathlib.Path) -> tuple[str, ...]:

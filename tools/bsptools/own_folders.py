@@ -13,7 +13,7 @@ import pwd
 import stat
 from collections.abc import Iterator, Sequence
 
-from .refusals import Refused
+from .refusals import Refused, tell
 
 OTHERS_WRITE, OTHERS_MAY_WRITE = 0o022, "other users may write there"
 # Where programs that the tools start look for settings, among which may be commands: gdb, git, GNU parallel and MPI do.
@@ -107,6 +107,14 @@ def expect_held(path: str | os.PathLike[str]) -> None:
     above = next(filter(os.path.exists, pathlib.Path(path).absolute().parents))
     if not is_held(above):
         raise Refused(f"other users may rename files in {above}: give another folder")
+    tell_of_others_above(above)
+
+
+def tell_of_others_above(path: str | os.PathLike[str]) -> None:
+    """Says if another user may rename a folder above one that was named. It is not refused, because on a cluster the folder of a group may
+    belong to its head."""
+    if not is_held_throughout(os.fspath(path)):
+        tell([f"another user may rename a folder above {os.fspath(path)}, and put other files in its place: name another folder if you do not trust that user"])
 
 
 def drop_homes_of_others() -> None:

@@ -121,7 +121,8 @@ class Tree:
         line, a part of which would be taken for a file of somebody else."""
         known = set(self.recorded())
         self._expect_below(names)
-        own_folders.tell_of_others_above(next(filter(os.path.exists, (self.root, *self.root.parents))))
+        if not self.root.exists():
+            own_folders.tell_of_others_above(next(filter(os.path.exists, self.root.parents)))
         for name in sorted(names):
             if name.splitlines() != [name]:
                 raise Refused(f"{name!r} has more than one line, and the record of what is installed has a line for each file: rename it")

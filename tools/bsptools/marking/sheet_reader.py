@@ -219,7 +219,10 @@ class Reader:
         if name and name not in [it.name for it in cases]:
             self.note((*path, "case"), f"there is no case {name!r}")
         wanted = [it for it in cases if not name or it.name == name]
-        known = {*SETTINGS, *QUANTITIES, SOLUTION, *(set.intersection(*(set(it.values) for it in wanted)) if wanted else ())}
+        costs = {*SETTINGS, *QUANTITIES, SOLUTION}
+        for both in sorted(formula.names & costs & {name for it in wanted for name in (*it.values, *dict(it.defines))}):
+            self.note(where, f"{both} is what a run has, and also a constant of this sheet: give the constant another name", 1 + formula.place_of(both))
+        known = {*costs, *(set.intersection(*(set(it.values) for it in wanted)) if wanted else ())}
         for unknown in sorted(formula.names - known):
             self.note(where, f"{unknown} is not known here: there are {', '.join(sorted(known))}", 1 + formula.place_of(unknown))
         nodes = self.nodes((*path, "nodes"), table["nodes"]) if "nodes" in table else ()

@@ -106,7 +106,7 @@ class Reader:
             seconds=self.given("seconds", lambda p, v: self.whole(p, v, 1, MOST_SECONDS), Sheet.seconds),
             output=self.given("output", lambda p, v: self.size(p, v, 1, MOST_OUTPUT), Sheet.output),
             instructions=self.given("instructions", lambda p, v: self.whole(p, v, 1, limits.MOST_TICKS), None),
-            forbid=take("forbid", self.texts) or (), require=take("require", self.texts) or (),
+            forbid=take("forbid", self.calls) or (), require=take("require", self.calls) or (),
             strict=self.given("strict", self.truth, True), races=self.given("races", self.truth, True),
             portable=self.given("portable", self.truth, False),
         )  # fmt: skip
@@ -141,6 +141,9 @@ class Reader:
             self.note(("points", "portable"), "points are given for what is not asked: say portable = true")
         if sheet.tolerance and sheet.compare != "numbers":
             self.note(("tolerance",), 'a tolerance is for numbers: say compare = "numbers"')
+        for at, name in enumerate(sheet.require):
+            if name in sheet.forbid:
+                self.note(("require", at), f"{name} is in forbid, too: no hand-in could be right")
         for at, bound in enumerate(sheet.bounds):
             if SOLUTION in bound.formula.names and not (sheet.solution or sheet.wanted):
                 self.note(("bound", at, "rule"), f"{SOLUTION} is in it, and the sheet has none")
@@ -284,6 +287,14 @@ class Reader:
             return tuple(value)
         self.note(path, f'{path[-1]} is a list of texts, as ["one", "two"]')
         return ()
+
+    def calls(self, path: Path, value: Any) -> Tuple[str, ...]:
+        """Names of functions, as an object has them."""
+        found = self.texts(path, value)
+        for at, it in enumerate(found):
+            if not NAME.fullmatch(it):
+                self.note((*path, at), f'{it!r} cannot be found in a program: {path[-1]} has names of functions of C, such as "printf"')
+        return found
 
     def file(self, path: Path, value: Any) -> str:
         """The name of a file that is there."""

@@ -19,7 +19,7 @@ EXIT = re.compile(r", in (?:exit|_exit|_Exit)\b")
 RIGHT, EMPTY, NOT_COMPILED, NOT_ALLOWED = "right", "no program", "does not compile", "not allowed"
 WRONG, STOPPED, ENDLESS, FLOOD, RACE = "wrong output", "stopped", "endless", "too much output", "race"
 EXPENSIVE, IDLE, NOT_PORTABLE, WARNED = "too expensive", "does too little", "not portable", "warnings"
-# The sheet's checker broke off, or the host gave too little to try it: that is no fault of the hand-in.
+# The sheet's checker broke off, a rule of it has no value, or the host gave too little to try it: that is no fault of the hand-in.
 UNJUDGED = "not judged"
 # Why nothing is looked at after the first of these.
 LOST = {EMPTY: "there is no program", NOT_COMPILED: "it does not compile", UNJUDGED: "it could not be tried"}
@@ -211,7 +211,7 @@ class Marker:
             try:
                 found = bound.formula.bound(values, self.wanted[number].costs)
             except (ValueError, KeyError) as error:
-                check.fault = f"{bound.formula.text} has no value on {run}: {error}"
+                check.fault, check.verdict = f"{bound.formula.text} has no value on {run}: {error}", UNJUDGED
                 return check
             if not found.is_kept:
                 self.exceeded(check, bound, number, found)

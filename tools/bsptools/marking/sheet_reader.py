@@ -81,6 +81,11 @@ def end_of(text: str) -> Tuple[int, int]:
     return len(lines), len(lines[-1]) + 1
 
 
+def is_whole(value: Any) -> bool:
+    """Whether a value is a whole number. In Python, true is one."""
+    return isinstance(value, int) and not isinstance(value, bool)
+
+
 class Reader:
     """Takes a sheet out of what TOML makes of it."""
 
@@ -332,10 +337,10 @@ class Reader:
 
     def whole(self, path: Path, value: Any, least: int, most: int) -> int:
         """A whole number of a range."""
-        if isinstance(value, bool) or not isinstance(value, int) or not least <= value <= most:
+        if not is_whole(value) or not least <= value <= most:
             self.note(path, f"{path[-1]} is a whole number from {least} to {most}")
             return least
-        return value
+        return int(value)
 
     def price(self, path: Path, value: Any) -> int:
         """A price of the machine, in ticks."""
@@ -352,7 +357,7 @@ class Reader:
 
     def nodes(self, path: Path, value: Any) -> Tuple[int, ...]:
         """Numbers of nodes."""
-        is_good = isinstance(value, list) and value and all(isinstance(it, int) and 1 <= it <= limits.MOST_NODES for it in value)
+        is_good = isinstance(value, list) and value and all(is_whole(it) and 1 <= it <= limits.MOST_NODES for it in value)
         if not is_good:
             self.note(path, f"nodes are a list of numbers from 1 to {limits.MOST_NODES}, as [1, 2, 7, 8]")
             return ()
@@ -384,7 +389,7 @@ class Reader:
             count = self.whole((*path, "numbers"), value["numbers"], 0, MOST_NUMBERS)
             seed = self.whole((*path, "seed"), value.get("seed", 1), 0, 1 << 62)
             least, most = value.get("least", 0), value.get("most", 999)
-            if not all(isinstance(it, int) and abs(it) < 1 << 62 for it in (least, most)) or least > most:
+            if not all(is_whole(it) and abs(it) < 1 << 62 for it in (least, most)) or least > most:
                 self.note(path, "least and most are whole numbers, the lesser first")
                 least, most = 0, 999
             return Numbers(count, seed, least, most)

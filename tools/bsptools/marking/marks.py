@@ -7,7 +7,7 @@ from collections.abc import Mapping, Sequence
 from dataclasses import dataclass, field
 from typing import Dict, List, NamedTuple, Optional
 
-from ..refusals import counted
+from ..refusals import counted, printable
 from . import formulas
 from .differences import Row, first_difference, is_same, rows
 from .evidence import BROKEN, LATE, LONG, WARNS, Ended, Evidence
@@ -78,6 +78,11 @@ class Marks:
     def points(self) -> float:
         """What it gets."""
         return sum(it.points for it in self.checks)
+
+    @property
+    def spelled(self) -> str:
+        """Its name as it is told. Two names that differ in what cannot be printed, such as a line feed, differ here, too."""
+        return printable(self.name)
 
     @property
     def first(self) -> Optional[Check]:

@@ -36,6 +36,8 @@ SYSTEM = (
     "/bin", "/sbin", "/lib", "/lib32", "/lib64", "/usr/bin", "/usr/lib", "/usr/lib32", "/usr/lib64", "/usr/libexec", "/usr/include",
     "/usr/riscv64-unknown-elf", "/usr/share/locale", "/etc/ld.so.cache", "/etc/alternatives", "/dev/urandom", "/dev/zero", "/proc/self/statm",
 )  # fmt: skip
+# What the linker's names of functions of C++ begin with.
+OF_CLASSES = "_Z"
 # What Python says first where something was raised.
 TRACEBACK = "Traceback (most recent call last):"
 OF_SYSTEM = tuple(f"{it}/" for it in SYSTEM)
@@ -208,10 +210,23 @@ class Marking:
     def marks(self, names: Sequence[str]) -> List[Marks]:
         """The marks of files, in their order."""
         found = hand_ins(names)
+        self.tell_unfound()
         self.find_wanted()
         evidence = self.evidence(found, self.plan)
         judged = self.judged(evidence)
         return [marks(it.name, one, self.sheet, self.wanted, said) for it, one, said in zip(found, evidence, judged)]
+
+    def tell_unfound(self) -> None:
+        """Tells which functions that the sheet forbids or requires no library has, by what the linker says of a program that is never run."""
+        names = [it for it in self.plan.calls if not it.startswith(OF_CLASSES)]
+        if not names:
+            return
+        source = self.folder / "calls.c"
+        source.write_text("int main(void) { __asm__(\".balign 4\\n%s\"); }\n" % "\\n".join(f".word {it}" for it in names))
+        words = [emulator.program("bspcc"), "-o", str(source.with_suffix(".elf")), str(source), "-lm"]
+        said = children.call(words, stdout=subprocess.PIPE, stderr=subprocess.STDOUT, env=compiler_environment(self.folder)).stdout.decode(errors="replace")
+        lacking = [it for it in names if f"undefined reference to `{it}'" in said]
+        tell([f"bspcheck: {it} is neither in the C library nor in BSPlib, so no call of it is found" for it in lacking])
 
     def evidence(self, found: Sequence[HandIn], plan: Plan) -> List[Evidence]:
         """What comes of hand-ins: as it is kept, or tried now."""

@@ -19,6 +19,7 @@ from checks import COMPILER, PYELFTOOLS, REPO, SECONDS, Part, Tally, Tool  # noq
 from marked import ALL_RIGHT, NOT_ALL_RIGHT, NOT_MARKED, Bench  # noqa: E402
 
 from bsptools.marking import bounded_run, confinement, hidden_warnings, sheet_marking  # noqa: E402
+from bsptools.refusals import printable  # noqa: E402
 
 LANDLOCK = Tool("Landlock", "linux-image-amd64", lambda _: confinement.version() > 0)
 SECRET = "kept from hand-ins"
@@ -473,6 +474,7 @@ def names(tally: Tally, folder: pathlib.Path) -> None:
         ("theirs/prints.c", SILENT, "wrong output"), ("theirs/silent.c", PRINTS, "right"), ("theirs/hand_in.c", PRINTS, "right"),
         ("theirs/prints.cpp", CLASSES, "right"), ("theirs/a blank.cpp", CLASSES, "right"), ("theirs/-dash.cc", CLASSES, "right"),
         ("theirs/\u00fcber.cxx", CLASSES, "right"), ("theirs/M\udcfcller.c", PRINTS, "right"), ("theirs/M\udcf6ller.c", SILENT, "wrong output"),
+        ("theirs/a\nline.c", PRINTS, "right"), ("theirs/a line.c", SILENT, "wrong output"),
     ]  # fmt: skip
     for name, text, _ in cases:
         bench.write(name, text)
@@ -484,8 +486,8 @@ def names(tally: Tally, folder: pathlib.Path) -> None:
     suites = xml.dom.minidom.parse(str(bench.folder / "m.xml")).getElementsByTagName("testsuite") if found else []
     told = [done.stdout, (bench.folder / "m.html").read_text() if found else "", [it.getAttribute("name") for it in suites]]
     for name, _, wanted in cases:
-        # A name that is no text has one spelling, which tells it from others.
-        spelled = name.encode(errors="backslashreplace").decode()
+        # A name that is no text, or that has a line feed, has one spelling, which tells it from others.
+        spelled = printable(name)
         tally.expect(f"{spelled} by its own text", found.get(spelled) == wanted, (found, done.stderr))
         tally.expect(f"{spelled} by that name everywhere", all(spelled in it for it in told), told)
 

@@ -109,9 +109,13 @@ def expect_judged(sheet: Sheet, found: list[Marks]) -> None:
     untried = [it for it in found if it.evidence.untried]
     if untried:
         raise Refused(f"{named_first(untried)} could not be tried, so it was not judged: {untried[0].evidence.untried}", "mark again after fixing that")
-    unjudged = [it for it in found if any(check.verdict == UNJUDGED for check in it.checks)]
-    if unjudged:
-        raise Refused(f"{sheet.checker} did not judge {named_first(unjudged)}: fix the checker, which has to judge any output, and mark again")
+    by_checker = [it for it in found if any(check.verdict == UNJUDGED and check.where for check in it.checks)]
+    if by_checker:
+        raise Refused(f"{sheet.checker} did not judge {named_first(by_checker)}: fix the checker, which has to judge any output, and mark again")
+    by_rule = [it for it in found if any(check.verdict == UNJUDGED for check in it.checks)]
+    if by_rule:
+        rule = next(it.name for it in by_rule[0].checks if it.verdict == UNJUDGED)
+        raise Refused(f"{rule} has no value for {named_first(by_rule)}: change this rule so that it has a value in any run, and mark again")
 
 
 def named_first(found: list[Marks]) -> str:

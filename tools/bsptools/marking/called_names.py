@@ -2,6 +2,7 @@
 
 from __future__ import annotations
 
+import os
 import pathlib
 import re
 from collections.abc import Collection
@@ -38,7 +39,8 @@ ASSEMBLES = re.compile(r"(?m)^[ \t]*(?:#|%:)[ \t]*define\b.*\b(?:asm|__asm|__asm
 
 def printing(part: pathlib.Path) -> Tuple[str, str]:
     """The options with which GCC prints what this module reads, in the folder of an object."""
-    return f"{PRINTING}{part.stem}.names", f"{PRINTING_TEXT}{part.stem}.functions"
+    path = os.path.relpath(part.with_suffix(""))
+    return f"{PRINTING}{path}.names", f"{PRINTING_TEXT}{path}.functions"
 
 
 def remove(part: pathlib.Path) -> None:

@@ -5,9 +5,10 @@ from __future__ import annotations
 import ast
 import math
 from collections.abc import Mapping
-from typing import Any, Callable, Dict, List, NamedTuple, Set, Tuple, Type
+from typing import Any, Callable, Dict, List, NamedTuple, Set, Tuple, Type, Union
 
 MOST_LETTERS, MOST_POWER = 500, 64
+TOO_LARGE = "a number is too large"
 # A value that stands for what the left side comes to in the solution's run.
 SOLUTION = "solution"
 FUNCTIONS: Dict[str, Callable[..., float]] = {
@@ -37,7 +38,10 @@ class Wrong(Exception):
 def _power(base: float, exponent: float) -> float:
     if abs(exponent) > MOST_POWER:
         raise ValueError(f"a power of more than {MOST_POWER}")
-    return float(base**exponent)
+    found: Union[float, complex] = base**exponent
+    if isinstance(found, complex):
+        raise ValueError("a root of a negative number")
+    return float(found)
 
 
 class Bound(NamedTuple):
@@ -138,21 +142,25 @@ def _check(node: Any) -> None:
 
 def _value(node: Any, values: Mapping[str, float]) -> float:
     """What an expression comes to. Raises ValueError if it is no number, or has no end."""
-    found = _computed(node, values)
-    if isinstance(found, float) and not math.isfinite(found):
-        raise ValueError("a number is too large")
+    try:
+        found = _computed(node, values)
+        # A whole number of Python has no largest one, and this raises OverflowError if it is beyond all floats.
+        is_finite = math.isfinite(found)
+    except OverflowError as error:
+        raise ValueError(TOO_LARGE) from error
+    except (ArithmeticError, TypeError) as error:
+        raise ValueError(str(error)) from error
+    if not is_finite:
+        raise ValueError(TOO_LARGE)
     return found
 
 
 def _computed(node: Any, values: Mapping[str, float]) -> float:
-    try:
-        if isinstance(node, ast.BinOp):
-            return OPERATORS[type(node.op)](_value(node.left, values), _value(node.right, values))
-        if isinstance(node, ast.UnaryOp):
-            value = _value(node.operand, values)
-            return -value if isinstance(node.op, ast.USub) else value
-        if isinstance(node, ast.Call) and isinstance(node.func, ast.Name):
-            return FUNCTIONS[node.func.id](*(_value(it, values) for it in node.args))
-        return float(node.value) if isinstance(node, ast.Constant) else values[node.id]
-    except (ArithmeticError, TypeError) as error:
-        raise ValueError(str(error)) from error
+    if isinstance(node, ast.BinOp):
+        return OPERATORS[type(node.op)](_value(node.left, values), _value(node.right, values))
+    if isinstance(node, ast.UnaryOp):
+        value = _value(node.operand, values)
+        return -value if isinstance(node.op, ast.USub) else value
+    if isinstance(node, ast.Call) and isinstance(node.func, ast.Name):
+        return FUNCTIONS[node.func.id](*(_value(it, values) for it in node.args))
+    return float(node.value) if isinstance(node, ast.Constant) else values[node.id]

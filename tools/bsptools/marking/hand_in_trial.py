@@ -118,7 +118,10 @@ class Trial:
         # Whether the host lets a process take less than a hand-in may, as by `ulimit`.
         self.plan, self.text, self.program, self.is_scarce = plan, text, program, is_scarce
         self.folder = pathlib.Path(os.getcwd())
-        self.name = name_beside(name, {it for it, _ in plan.files} | {last_name(it) for run in plan.runs for it, _ in run.given})
+        taken = {it for it, _ in plan.files} | {last_name(it) for run in plan.runs for it, _ in run.given}
+        self.name = name_beside(name, taken)
+        # Programs, runs and what is found out about them are here, under names that files of the sheet may have, too.
+        self.own = self.folder / next(it for it in (f"trial{number or ''}" for number in itertools.count()) if it not in taken)
         self.found = Evidence()
 
     def make(self) -> Evidence:
@@ -135,6 +138,7 @@ class Trial:
         self.found.refused = refusal(self.text)
         if self.found.refused:
             return self.found
+        self.own.mkdir()
         (self.folder / self.name).write_bytes(self.text)
         for name, content in self.plan.files:
             self.put(name, content)
@@ -162,24 +166,25 @@ class Trial:
     def built(self, defines: Tuple[Tuple[str, str], ...], number: int) -> pathlib.Path:
         """The executable for these constants. If the sheet names calls, they are looked for in the object that it is linked from, since the
         text may be another one with other constants, or as it is compiled once more; and in one in which GCC has replaced no call."""
-        target = self.folder / f"program{number}.elf"
+        target = self.own / f"program{number}.elf"
         room = limits.STACK if self.plan.memory >= limits.MEMORY_OF_STACK else limits.COMPILED_STACK
-        linking = ("-o", target.name, "-g", "--stack", str(room))
+        linking = ("-o", os.path.relpath(target), "-g", "--stack", str(room))
         if not self.plan.calls:
             self.compile([*self.compiler(defines, self.name, *linking), "-lm"], target, number)
             return target
         part = target.with_suffix(".o")
         called = self.unreplaced(defines, part)
-        if self.compile(self.compiler(defines, self.name, "-c", "-o", part.name, "-g", *called_names.printing(part)), part, number):
+        source = os.path.relpath(part)
+        if self.compile(self.compiler(defines, self.name, "-c", "-o", source, "-g", *called_names.printing(part)), part, number):
             self.find_calls(part, called)
-            self.compile([*self.compiler((), part.name, *linking), "-lm"], target, number)
+            self.compile([*self.compiler((), source, *linking), "-lm"], target, number)
         return target
 
     def compile(self, words: List[str], target: pathlib.Path, number: int) -> bool:
         """Has the compiler write a file, and answers whether it did."""
         ran = bounded_run.run(words, COMPILER_SECONDS, MOST_COMPILED, compiler_environment(self.folder))
         is_built = ran.how == bounded_run.ENDED and ran.status == 0 and target.is_file()
-        lines = ran.said.decode(errors="replace").replace(f"{self.folder}/", "").splitlines()
+        lines = ran.said.decode(errors="replace").replace(f"{self.folder}/", "").replace(f"{self.own.name}/program", "program").splitlines()
         said = cut(with_short_place(it) for it in lines if it.strip())
         if not is_built:
             self.found.lack = next(filter(self.is_lack, said), SLOW if ran.how == bounded_run.LATE else "")
@@ -222,7 +227,7 @@ class Trial:
         knows what a function computes, as for the first value of a variable: then these are the names that the text calls."""
         # The headers of C++ call such names themselves, as __builtin_strlen.
         known = [it for it in self.plan.calls if it.isidentifier() and self.name.endswith(".c")]
-        options = ("-c", "-o", part.name, *called_names.printing(part), *UNREPLACED, *(f"-D__builtin_{it}={it}" for it in known))
+        options = ("-c", "-o", os.path.relpath(part), *called_names.printing(part), *UNREPLACED, *(f"-D__builtin_{it}={it}" for it in known))
         ran = bounded_run.run(self.compiler(defines, self.name, *options), COMPILER_SECONDS, MOST_COMPILED, compiler_environment(self.folder))
         is_built = ran.how == bounded_run.ENDED and ran.status == 0 and part.is_file()
         names = self.names_of(part) if is_built else set()
@@ -257,7 +262,7 @@ class Trial:
 
     def job(self, run: RunPlan, program: pathlib.Path, folder: str) -> Job:
         """A run that is ready to be made: of an executable, or of the hand-in's text, which is compiled for it, as --portable asks."""
-        place = self.folder / folder
+        place = self.own / folder
         place.mkdir(exist_ok=True)
         given = None
         if run.input is not None:
@@ -346,7 +351,7 @@ class Trial:
         """What two requests of a superstep bring to the same bytes, if they do."""
         found = None
         with patient(self.patience):
-            found = contested_bytes.in_run(job.program, job.settings, job.options.nodes, report.supersteps[-1].number, self.folder)
+            found = contested_bytes.in_run(job.program, job.settings, job.options.nodes, report.supersteps[-1].number, self.own)
         if found is None:
             self.lacks("the search for bytes that two requests write")
         if found is None or found.first is None:
@@ -374,7 +379,7 @@ class Trial:
                 found["supersteps"] = barriers(ends(job.code, job.replays(), min(len(report.supersteps), MOST_ENDS)))
         if set(wanted) == {"supersteps"}:
             return found
-        counts = self.folder / "counts"
+        counts = self.own / "counts"
         with patient():
             bounded_run.run([*job.program, "run", *job.settings, "--report", "--counts", str(counts)], PATIENCE, MOST_REPORT)
             trace = Tracer(job.code, job.replays())
@@ -393,8 +398,8 @@ class Trial:
         self.found.portable, self.found.is_portable = [], False
         with patient(self.patience):
             job = self.job(run, pathlib.Path(self.name), "portable")
-            with Builds(job.options, self.folder / "portable") as builds:
-                found = verdict(job, self.folder / "portable", builds)
+            with Builds(job.options, self.own / "portable") as builds:
+                found = verdict(job, self.own / "portable", builds)
             self.found.portable = [it.replace("bsprun: ", "", 1) for it in found.lines()] if found else [UNTRIED]
             self.found.is_portable = found is not None and not found.found
             return

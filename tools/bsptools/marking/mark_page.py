@@ -61,7 +61,7 @@ def body(sheet: Sheet, marks: Marks, wanted: Sequence[Wanted], again: Again) -> 
     fault = marks.first.told if marks.first else ""
     kind = "wrong" if marks.first else "right"
     return (
-        f'<tbody><tr><td class="name" data-value="{text(marks.name)}"><button type="button">{text(marks.name)}</button></td>'
+        f'<tbody><tr><td class="name" data-value="{text(marks.spelled)}"><button type="button">{text(marks.spelled)}</button></td>'
         f'<td class="number" data-value="{marks.points:.4f}">{points_told(marks.points)} of {points_told(sheet.points)}</td>'
         f'<td data-value="{marks.verdict}"><span class="{kind}">{marks.verdict}</span></td>'
         f'<td class="fault" data-value="{text(cut(fault))}">{text(cut(fault))}</td></tr>\n'

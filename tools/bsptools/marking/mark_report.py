@@ -32,7 +32,7 @@ def suite(sheet: Sheet, marks: Marks) -> str:
     """A hand-in."""
     failed = sum(not it.is_kept for it in marks.checks)
     points = f"{points_told(marks.points)} of {points_told(sheet.points)}"
-    lines = [f'<testsuite name={quoteattr(spelled(marks.name))} tests="{len(marks.checks)}" failures="{failed}">']
+    lines = [f'<testsuite name={quoteattr(spelled(marks.spelled))} tests="{len(marks.checks)}" failures="{failed}">']
     properties = f'<property name="points" value="{points}"/><property name="verdict" value={quoteattr(marks.verdict)}/>'
     lines.append(f"<properties>{properties}</properties>")
     return "\n".join([*lines, *(case(marks, it) for it in marks.checks), "</testsuite>"])
@@ -41,7 +41,7 @@ def suite(sheet: Sheet, marks: Marks) -> str:
 def case(marks: Marks, check: Check) -> str:
     """One thing that was looked at."""
     name = f"{check.name} ({points_told(check.points)} of {points_told(check.of)})" if check.of else check.name
-    head = f"<testcase classname={quoteattr(spelled(marks.name))} name={quoteattr(spelled(name))}"
+    head = f"<testcase classname={quoteattr(spelled(marks.spelled))} name={quoteattr(spelled(name))}"
     if check.is_kept:
         return f"{head}/>"
     lines: List[str] = [check.fault, *check.more[:MOST_LINES]]

@@ -23,7 +23,7 @@ def lines(sheet: Sheet, found: Sequence[Marks]) -> List[str]:
     """A row a hand-in, and a line that counts them. Of a single one all is told that was looked at."""
     if len(found) == 1:
         return one(sheet, found[0])
-    names = [named(it.name) for it in found]
+    names = [named(it.spelled) for it in found]
     width, wide = max(map(len, names)), max(len(it.verdict) for it in found)
     of = points_told(sheet.points)
     room = max(len(of) + 1, *(len(points_told(it.points)) for it in found))
@@ -40,7 +40,7 @@ def lines(sheet: Sheet, found: Sequence[Marks]) -> List[str]:
 
 def one(sheet: Sheet, marks: Marks) -> List[str]:
     """All that was looked at in a hand-in."""
-    rows = [f"{shown(marks.name)}: {points_told(marks.points)} of {points_told(sheet.points)} points, {marks.verdict}"]
+    rows = [f"{shown(marks.spelled)}: {points_told(marks.points)} of {points_told(sheet.points)} points, {marks.verdict}"]
     told: Set[str] = set()
     of_checks = [f"{points_told(it.points)} of {points_told(it.of)}" if it.of else "" for it in marks.checks]
     room = max([11, *map(len, of_checks)])
@@ -106,6 +106,6 @@ def as_csv(sheet: Sheet, found: Sequence[Marks]) -> str:
         # These come last, in this order. Two bounds may have the same name, each for a case of its own.
         points = [points_told(check.points) for check in it.checks[-len(names) :]]
         fault = it.first.told if it.first else ""
-        first = [cell(it.name), points_told(it.points), points_told(sheet.points), it.verdict, cell(fault)]
+        first = [cell(it.spelled), points_told(it.points), points_told(sheet.points), it.verdict, cell(fault)]
         rows.writerow([*first, *points])
     return text.getvalue()

@@ -7,7 +7,7 @@ from collections.abc import Mapping, Sequence
 from dataclasses import dataclass, field
 from typing import Dict, List, NamedTuple, Optional
 
-from ..refusals import counted
+from ..refusals import counted, printable
 from . import formulas
 from .differences import Row, first_difference, is_same, rows
 from .evidence import BROKEN, LATE, LONG, WARNS, Ended, Evidence
@@ -19,7 +19,7 @@ EXIT = re.compile(r", in (?:exit|_exit|_Exit)\b")
 RIGHT, EMPTY, NOT_COMPILED, NOT_ALLOWED = "right", "no program", "does not compile", "not allowed"
 WRONG, STOPPED, ENDLESS, FLOOD, RACE = "wrong output", "stopped", "endless", "too much output", "race"
 EXPENSIVE, IDLE, NOT_PORTABLE, WARNED = "too expensive", "does too little", "not portable", "warnings"
-# The sheet's checker broke off, or the host gave too little to try it: that is no fault of the hand-in.
+# The sheet's checker broke off, a rule of it has no value, or the host gave too little to try it: that is no fault of the hand-in.
 UNJUDGED = "not judged"
 # Why nothing is looked at after the first of these.
 LOST = {EMPTY: "there is no program", NOT_COMPILED: "it does not compile", UNJUDGED: "it could not be tried"}
@@ -78,6 +78,11 @@ class Marks:
     def points(self) -> float:
         """What it gets."""
         return sum(it.points for it in self.checks)
+
+    @property
+    def spelled(self) -> str:
+        """Its name as it is told. Two names that differ in what cannot be printed, such as a line feed, differ here, too."""
+        return printable(self.name)
 
     @property
     def first(self) -> Optional[Check]:
@@ -211,7 +216,7 @@ class Marker:
             try:
                 found = bound.formula.bound(values, self.wanted[number].costs)
             except (ValueError, KeyError) as error:
-                check.fault = f"{bound.formula.text} has no value on {run}: {error}"
+                check.fault, check.verdict = f"{bound.formula.text} has no value on {run}: {error}", UNJUDGED
                 return check
             if not found.is_kept:
                 self.exceeded(check, bound, number, found)

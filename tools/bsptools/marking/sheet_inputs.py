@@ -33,6 +33,8 @@ class Inputs:
     def __init__(self, sheet: Sheet, seed: Optional[int]) -> None:
         self.sheet, self.seed = sheet, seed
         self.known: Dict[Tuple[object, int], Optional[bytes]] = {}
+        if seed is not None and not any(isinstance(it.input, (Numbers, Generator)) or SEED in dict(it.defines) for it in sheet.cases):
+            tell([f"bspcheck: --seed changes nothing: no input of this sheet has a seed, and there is no constant {SEED}"])
 
     def defines(self, case: Case) -> Tuple[Tuple[str, str], ...]:
         """The constants of a case. One of the name SEED is the seed that a program makes its own input of."""

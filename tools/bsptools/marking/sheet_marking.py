@@ -26,7 +26,7 @@ from . import bounded_run, compiler_files, confinement, trial_pool, wanted_file
 from .evidence import Evidence, of_json
 from .evidence_store import Store, folder_at
 from .hand_in_trial import COMPILER_SECONDS, ERRORS, FULL, MOST_TEXT, SLOW, Plan, RunPlan, Trial, compiler_environment, last_name
-from .marks import UNJUDGED, WRONG, Judgement, Marks, Wanted, faults_of_solution, marks, wanted_of
+from .marks import NOT_ALLOWED, RACE, UNJUDGED, WRONG, Judgement, Marks, Wanted, faults_of_solution, marks, wanted_of
 from .sheet import ALONE, INSTRUCTIONS, TIMES, Run, Sheet, settings_of
 from .sheet_inputs import SECONDS, Inputs, words_of
 
@@ -36,6 +36,8 @@ SYSTEM = (
     "/bin", "/sbin", "/lib", "/lib32", "/lib64", "/usr/bin", "/usr/lib", "/usr/lib32", "/usr/lib64", "/usr/libexec", "/usr/include",
     "/usr/riscv64-unknown-elf", "/usr/share/locale", "/etc/ld.so.cache", "/etc/alternatives", "/dev/urandom", "/dev/zero", "/proc/self/statm",
 )  # fmt: skip
+# What the linker's names of functions of C++ begin with.
+OF_CLASSES = "_Z"
 # What Python says first where something was raised.
 TRACEBACK = "Traceback (most recent call last):"
 OF_SYSTEM = tuple(f"{it}/" for it in SYSTEM)
@@ -159,23 +161,42 @@ class Marking:
         )  # fmt: skip
 
     def find_wanted(self) -> None:
-        """Finds what is wanted: by the solution, which is run here, or else by a file."""
-        sheet = self.sheet
-        if sheet.solution and (os.path.exists(sheet.file(sheet.solution)) or not sheet.wanted):
-            solution = hand_in(sheet.file(sheet.solution))
-            if solution.why:
-                raise Refused(f"{solution.name}: {solution.why}")
-            plan = replace(self.plan, portable=False, calls=(), races=False, warnings=False)
-            evidence = self.evidence([solution], plan)[0]
-            if faults := faults_of_solution(evidence, sheet):
-                raise Refused(*(f"{sheet.solution}, the solution, does not pass{f' on {run}' if run else ''}: {why}" for run, why in faults.items()))
-            self.wanted = wanted_of(evidence)
+        """Finds what is wanted: by the solution, or else by a file."""
+        sheet, solved = self.sheet, self.solved()
+        if solved is not None:
+            self.wanted = wanted_of(solved)
         elif sheet.wanted:
             self.wanted = wanted_file.read(sheet, sheet.runs, self.plan.runs)
         else:
             self.wanted = [Wanted() for _ in sheet.runs]
         self.wanted = [self.expected(run, it) for run, it in zip(sheet.runs, self.wanted)]
         self.plan = self.planned(self.wanted)
+        if solved is not None:
+            self.expect_passed(solved)
+
+    def solved(self) -> Optional[Evidence]:
+        """What comes of the solution, which is run here; None if there is none. The trial of `portable` would take longer than all else."""
+        sheet = self.sheet
+        if not sheet.solution or sheet.wanted and not os.path.exists(sheet.file(sheet.solution)):
+            return None
+        solution = hand_in(sheet.file(sheet.solution))
+        if solution.why:
+            raise Refused(f"{solution.name}: {solution.why}")
+        evidence = self.evidence([solution], replace(self.plan, portable=False))[0]
+        if faults := faults_of_solution(evidence, sheet):
+            raise Refused(*(f"{sheet.solution}, the solution, does not pass{f' on {run}' if run else ''}: {why}" for run, why in faults.items()))
+        return evidence
+
+    def expect_passed(self, solved: Evidence) -> None:
+        """Refuses a sheet by which its own solution is wrong or not allowed: every hand-in would be so. Tells what else the solution does not
+        pass, since a teacher may ask for more than it does."""
+        sheet = replace(self.sheet, portable=False)
+        checks = [it for it in marks(sheet.solution, solved, sheet, self.wanted, self.judged([solved])[0]).checks if not it.is_kept and it.verdict]
+        wrong = [it for it in checks if it.where or it.verdict == NOT_ALLOWED]
+        lines = [f"{sheet.solution}, the solution, does not pass {f'on {it.where}' if it.where else it.name}: {it.fault}" for it in wrong or checks]
+        if wrong:
+            raise Refused(*lines, f"change the solution or {said_by(sheet, wrong[0].verdict)}: they contradict each other, so no hand-in was marked")
+        tell(lines, "bspcheck: ")
 
     def expected(self, run: Run, wanted: Wanted) -> Wanted:
         """What is wanted where a case names a file for that, in whose name {p} stands for the nodes."""
@@ -189,10 +210,23 @@ class Marking:
     def marks(self, names: Sequence[str]) -> List[Marks]:
         """The marks of files, in their order."""
         found = hand_ins(names)
+        self.tell_unfound()
         self.find_wanted()
         evidence = self.evidence(found, self.plan)
         judged = self.judged(evidence)
         return [marks(it.name, one, self.sheet, self.wanted, said) for it, one, said in zip(found, evidence, judged)]
+
+    def tell_unfound(self) -> None:
+        """Tells which functions that the sheet forbids or requires no library has, by what the linker says of a program that is never run."""
+        names = [it for it in self.plan.calls if not it.startswith(OF_CLASSES)]
+        if not names:
+            return
+        source = self.folder / "calls.c"
+        source.write_text("int main(void) { __asm__(\".balign 4\\n%s\"); }\n" % "\\n".join(f".word {it}" for it in names))
+        words = [emulator.program("bspcc"), "-o", str(source.with_suffix(".elf")), str(source), "-lm"]
+        said = children.call(words, stdout=subprocess.PIPE, stderr=subprocess.STDOUT, env=compiler_environment(self.folder)).stdout.decode(errors="replace")
+        lacking = [it for it in names if f"undefined reference to `{it}'" in said]
+        tell([f"bspcheck: {it} is neither in the C library nor in BSPlib, so no call of it is found" for it in lacking])
 
     def evidence(self, found: Sequence[HandIn], plan: Plan) -> List[Evidence]:
         """What comes of hand-ins: as it is kept, or tried now."""
@@ -404,6 +438,11 @@ class Marking:
         # Another start may have left a part of it, or another person something else.
         put(path, content)
         return os.path.relpath(path)
+
+
+def said_by(sheet: Sheet, verdict: str) -> str:
+    """What of a sheet gives a hand-in this verdict."""
+    return {NOT_ALLOWED: "`forbid` and `require`", RACE: "`races`"}.get(verdict, sheet.checker or "`expected`")
 
 
 def cache_at(folder: pathlib.Path) -> str:

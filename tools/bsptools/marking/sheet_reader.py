@@ -81,6 +81,11 @@ def end_of(text: str) -> Tuple[int, int]:
     return len(lines), len(lines[-1]) + 1
 
 
+def is_whole(value: Any) -> bool:
+    """Whether a value is a whole number. In Python, true is one."""
+    return isinstance(value, int) and not isinstance(value, bool)
+
+
 class Reader:
     """Takes a sheet out of what TOML makes of it."""
 
@@ -106,7 +111,7 @@ class Reader:
             seconds=self.given("seconds", lambda p, v: self.whole(p, v, 1, MOST_SECONDS), Sheet.seconds),
             output=self.given("output", lambda p, v: self.size(p, v, 1, MOST_OUTPUT), Sheet.output),
             instructions=self.given("instructions", lambda p, v: self.whole(p, v, 1, limits.MOST_TICKS), None),
-            forbid=take("forbid", self.texts) or (), require=take("require", self.texts) or (),
+            forbid=take("forbid", self.calls) or (), require=take("require", self.calls) or (),
             strict=self.given("strict", self.truth, True), races=self.given("races", self.truth, True),
             portable=self.given("portable", self.truth, False),
         )  # fmt: skip
@@ -141,6 +146,9 @@ class Reader:
             self.note(("points", "portable"), "points are given for what is not asked: say portable = true")
         if sheet.tolerance and sheet.compare != "numbers":
             self.note(("tolerance",), 'a tolerance is for numbers: say compare = "numbers"')
+        for at, name in enumerate(sheet.require):
+            if name in sheet.forbid:
+                self.note(("require", at), f"{name} is in forbid, too: no hand-in could be right")
         for at, bound in enumerate(sheet.bounds):
             if SOLUTION in bound.formula.names and not (sheet.solution or sheet.wanted):
                 self.note(("bound", at, "rule"), f"{SOLUTION} is in it, and the sheet has none")
@@ -219,7 +227,10 @@ class Reader:
         if name and name not in [it.name for it in cases]:
             self.note((*path, "case"), f"there is no case {name!r}")
         wanted = [it for it in cases if not name or it.name == name]
-        known = {*SETTINGS, *QUANTITIES, SOLUTION, *(set.intersection(*(set(it.values) for it in wanted)) if wanted else ())}
+        costs = {*SETTINGS, *QUANTITIES, SOLUTION}
+        for both in sorted(formula.names & costs & {name for it in wanted for name in (*it.values, *dict(it.defines))}):
+            self.note(where, f"{both} is what a run has, and also a constant of this sheet: give the constant another name", 1 + formula.place_of(both))
+        known = {*costs, *(set.intersection(*(set(it.values) for it in wanted)) if wanted else ())}
         for unknown in sorted(formula.names - known):
             self.note(where, f"{unknown} is not known here: there are {', '.join(sorted(known))}", 1 + formula.place_of(unknown))
         nodes = self.nodes((*path, "nodes"), table["nodes"]) if "nodes" in table else ()
@@ -282,6 +293,14 @@ class Reader:
         self.note(path, f'{path[-1]} is a list of texts, as ["one", "two"]')
         return ()
 
+    def calls(self, path: Path, value: Any) -> Tuple[str, ...]:
+        """Names of functions, as an object has them."""
+        found = self.texts(path, value)
+        for at, it in enumerate(found):
+            if not NAME.fullmatch(it):
+                self.note((*path, at), f'{it!r} cannot be found in a program: {path[-1]} has names of functions of C, such as "printf"')
+        return found
+
     def file(self, path: Path, value: Any) -> str:
         """The name of a file that is there."""
         name = self.text(path, value)
@@ -318,10 +337,10 @@ class Reader:
 
     def whole(self, path: Path, value: Any, least: int, most: int) -> int:
         """A whole number of a range."""
-        if isinstance(value, bool) or not isinstance(value, int) or not least <= value <= most:
+        if not is_whole(value) or not least <= value <= most:
             self.note(path, f"{path[-1]} is a whole number from {least} to {most}")
             return least
-        return value
+        return int(value)
 
     def price(self, path: Path, value: Any) -> int:
         """A price of the machine, in ticks."""
@@ -338,7 +357,7 @@ class Reader:
 
     def nodes(self, path: Path, value: Any) -> Tuple[int, ...]:
         """Numbers of nodes."""
-        is_good = isinstance(value, list) and value and all(isinstance(it, int) and 1 <= it <= limits.MOST_NODES for it in value)
+        is_good = isinstance(value, list) and value and all(is_whole(it) and 1 <= it <= limits.MOST_NODES for it in value)
         if not is_good:
             self.note(path, f"nodes are a list of numbers from 1 to {limits.MOST_NODES}, as [1, 2, 7, 8]")
             return ()
@@ -370,7 +389,7 @@ class Reader:
             count = self.whole((*path, "numbers"), value["numbers"], 0, MOST_NUMBERS)
             seed = self.whole((*path, "seed"), value.get("seed", 1), 0, 1 << 62)
             least, most = value.get("least", 0), value.get("most", 999)
-            if not all(isinstance(it, int) and abs(it) < 1 << 62 for it in (least, most)) or least > most:
+            if not all(is_whole(it) and abs(it) < 1 << 62 for it in (least, most)) or least > most:
                 self.note(path, "least and most are whole numbers, the lesser first")
                 least, most = 0, 999
             return Numbers(count, seed, least, most)

@@ -35,7 +35,7 @@ def is_same(came: bytes, wanted: bytes, sheet: Sheet) -> bool:
     """Whether an output is right."""
     if sheet.compare == BYTES:
         return came == wanted
-    one, other = came.decode(errors="replace").split(), wanted.decode(errors="replace").split()
+    one, other = (it.decode(errors="surrogateescape").split() for it in (came, wanted))
     return len(one) == len(other) and all(is_same_word(a, b, sheet) for a, b in zip(one, other))
 
 

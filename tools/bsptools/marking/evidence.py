@@ -54,8 +54,8 @@ class Ended:
 @dataclass
 class Evidence:
     """All of a hand-in: why it is no program at all, or what the compiler said and whether it made one; how it hides warnings, where the sheet
-    has points for these; which calls it names, of those that a sheet speaks of, and which of them what runs makes; its runs, in the order of the sheet; and the verdict of
-    --portable, where the sheet asks for that.
+    has points for these; which calls it names, of those that a sheet speaks of, and which of them what runs makes with the constants of each
+    case; its runs, in the order of the sheet; and the verdict of --portable, where the sheet asks for that.
 
     `lack` says what the host may not have given, as room on a disk that others have filled: then it is tried again by itself. `untried` says
     why it cannot be judged, as where that did not help.
@@ -68,7 +68,7 @@ class Evidence:
     said: List[str] = field(default_factory=list)
     hides: str = ""
     calls: Dict[str, int] = field(default_factory=dict)
-    made: List[str] = field(default_factory=list)
+    made: Optional[List[str]] = None
     runs: List[Ended] = field(default_factory=list)
     portable: Optional[List[str]] = None
     is_portable: bool = True

@@ -250,8 +250,8 @@ class Trial:
         for name in called | linked:
             found = re.search(rf"\b(?:__builtin_)?{re.escape(name)}\b", text)
             self.found.calls[name] = text.count("\n", 0, found.start()) + 1 if found else 0
-            if name in linked or called_names.is_called(part, name):
-                self.found.made.append(name)
+        made = [it for it in sorted(called | linked) if it in linked or called_names.is_called(part, it)]
+        self.found.made = [it for it in made if self.found.made is None or it in self.found.made]
 
     @property
     def decoded(self) -> str:

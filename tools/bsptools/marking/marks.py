@@ -140,7 +140,7 @@ class Marker:
             if it in calls:
                 check.fault = f"{it} is called{f' in line {calls[it]}' if calls[it] else ''}, but this sheet forbids it"
                 return check
-        missing = [it for it in sheet.require if it not in self.evidence.made]
+        missing = [it for it in sheet.require if it not in (self.evidence.made or [])]
         check.fault = f"{missing[0]} is not called, but this sheet requires it" if missing else ""
         return check
 
@@ -170,11 +170,12 @@ class Marker:
         check = Check(f"output on {run}", 0, of, run=number, where=str(run))
         if wanted.output is not None:
             check.rows = rows(ended.content, wanted.output, self.sheet)
+        judgement = None if self.judged is None else self.judged[number]
         if not ended.is_well:
             self.not_well(check, ended)
-        elif self.judged is not None and self.judged[number].verdict:
-            check.verdict, check.fault = self.judged[number]
-        elif wanted.output is not None and not is_same(ended.content, wanted.output, self.sheet):
+        elif judgement is not None and judgement.verdict:
+            check.verdict, check.fault = judgement
+        elif judgement is None and wanted.output is not None and not is_same(ended.content, wanted.output, self.sheet):
             check.verdict, check.fault = WRONG, first_difference(ended.content, wanted.output, self.sheet)
         elif ended.race:
             check.verdict, check.fault, check.more = RACE, race_fault(ended.race), list(ended.race)

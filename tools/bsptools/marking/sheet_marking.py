@@ -201,7 +201,7 @@ class Marking:
     def expected(self, run: Run, wanted: Wanted) -> Wanted:
         """What is wanted where a case names a file for that, in whose name {p} stands for the nodes."""
         if not run.case.expected:
-            return wanted._replace(output=None) if self.sheet.checker and not self.sheet.solution else wanted
+            return wanted
         name = run.case.expected.replace("{p}", str(run.nodes))
         return wanted._replace(output=named_content(self.sheet.file(name), MOST_OUTPUT))
 

@@ -16,6 +16,7 @@ from bsptools.outputs.output_records import writes_files
 from bsptools.plot.profile import Profile
 from bsptools.plot.superstep_costs import Prices
 from bsptools.refusals import Refused, counted
+from bsptools.sweep.sweep_job import NAME
 
 from . import _figures, _frames
 from ._tools import BspError, Done, Number, Price, call, exact, parted, several
@@ -111,6 +112,8 @@ class Command(NamedTuple):
             words += ["--input", os.path.join(folder, "input")]
         if "--no-files" not in self.options and may_write(program):
             words += ["--out", os.path.join(folder, "out")]
+        # As in a sweep: the name of a program is in its memory, and so has a part in its costs.
+        words += [f"--argv0={NAME}"]
         return [*words, *self.options, program, *self.args]
 
 

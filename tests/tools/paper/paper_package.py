@@ -45,8 +45,8 @@ print(wrote.files, wrote.output)
 built, cell = bspemu.run("wrote.elf", input="7\\n"), made(Command([], "cell.c", [], b"", open("wrote.c").read()), True)
 priced = bspemu.run("sieve.c", nodes=4, args=[1000], options=["--g", "4", "--l", "7", "--summary"])
 print(json.dumps([priced.cost(), priced.cost(4, 7), run.cost() == run.w + run.h, priced.cost(l=0) == run.cost(4), priced.told, priced.w == run.w]))
-many = bspemu.run("three.s", nodes=1500)
-print(built.files, [int(it.lines["w"].sum()) == it.w for it in (wrote, built, cell)], os.path.exists("a.txt"))
+many, far = bspemu.run("three.s", nodes=1500), bspemu.run(os.path.abspath("sieve.c"), nodes=4, args=[1000])
+print(built.files, [int(it.lines["w"].sum()) == it.w for it in (wrote, built, cell)] + [far.w == run.w], os.path.exists("a.txt"))
 for bad in (lambda: bspemu.run("none.c"), lambda: bspemu.run("three.c"), lambda: bspemu.sweep("none.c"), lambda: sweep.curves(x="N"),
             lambda: bspemu.sweep("sieve.c", prices=["5"]), lambda: run.cost(g="a"), lambda: bspemu.run("sieve.c", options=["--report=r.csv"]),
             lambda: sweep.curves(g="4"), lambda: sweep.map(x="N"), lambda: run.cost(-1), lambda: bspemu.run("sieve.c", nodes=0),
@@ -119,7 +119,7 @@ def imported(check: Check) -> None:
     priced = json.loads(lines[9])
     right = priced[:4] == [told["total"], told["total"], True, True] and f"total {told['total']}" in priced[4] and priced[5]
     check.expect("the prices of a run, and no options of the environment", right, priced)
-    check.expect("files of an executable, and of lines", lines[10] == "{'a.txt': b'7'} [True, True, True] False", lines[10])
+    check.expect("files of an executable, and of lines", lines[10] == "{'a.txt': b'7'} [True, True, True, True] False", lines[10])
     wanted: List[Tuple[int, str]] = [(1, "none.c"), (2, "ended with status 3"), (1, "none.c"), (1, "the table has no column N")]
     wanted += [(1, "'5' is not a pair of prices"), (1, "'a' is not a price"), (1, "--report is not for runs from Python")]
     wanted += [(1, "which has its own prices: give --g and --l to bspsweep"), (1, "--x has no effect on --map: it is for --curves and --table")]

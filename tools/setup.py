@@ -2,6 +2,7 @@
 
 from __future__ import annotations
 
+import os
 import pathlib
 import shutil
 import subprocess
@@ -39,9 +40,12 @@ class WithShare(build_py):
                 shutil.copytree(TOP / name, target)
             else:
                 shutil.copy2(TOP / name, target)
-        described = subprocess.run(GIT, cwd=TOP, stdout=subprocess.PIPE, stderr=subprocess.DEVNULL, text=True, check=False)
-        if described.returncode == 0:
-            (share / "commit").write_text(described.stdout, encoding="utf-8")
+        # In another repository, that one's settings could have commands; and in a hook of git, the environment names the hook's.
+        if (TOP / ".git").exists():
+            environment = {name: it for name, it in os.environ.items() if not name.startswith("GIT_")}
+            done = subprocess.run(GIT, cwd=TOP, env=environment, stdout=subprocess.PIPE, stderr=subprocess.DEVNULL, text=True, check=False)
+            if done.returncode == 0:
+                (share / "commit").write_text(done.stdout, encoding="utf-8")
 
 
 class ForLinux(bdist_wheel):

@@ -498,14 +498,16 @@ def hostile(look: Look) -> str:
 
 
 def nested(look: Look) -> str:
-    """Of values that lie in each other, as in unions of unions, no more is shown than a browser can draw."""
+    """Of values that lie in each other, as in unions of unions, no more is shown than a browser can draw; nor of numbers of any size."""
     unions = [f"union u{k} {{ {'int' if k == 0 else f'union u{k - 1}'} {', '.join(f'a{i}' for i in range(24))}; }};" for k in range(4)]
     text = "#include <bsp.h>\n" + "\n".join(unions) + "\nunion u3 all;\nint main(void) { bsp_begin(1); bsp_push_reg(&all, 4); bsp_sync(); bsp_end(); }\n"
     (look.maker.folder / "unions.c").write_text(text)
     look.open(look.maker.page(look.maker.folder / "unions.c", ["-n", "1"]))
     count = look.page.run("document.getElementsByTagName('*').length")
     has_some = look.page.run("[...document.querySelectorAll('#stage .cell')].filter((it) => it.textContent === '0').length > 100")
-    return "" if has_some and count < MOST_DRAWN else f"{count} elements"
+    # DW_OP_lit1 and DW_OP_stack_value, of a type of 16 MB.
+    size = look.page.run("located(new Uint8Array([0x31, 0x9f]), {}, 1 << 24).bytes.length")
+    return "" if has_some and count < MOST_DRAWN and size < 100 else f"{count} elements, {size} bytes"
 
 
 def widths(look: Look) -> str:

@@ -80,7 +80,7 @@ class Boxes {
   async read(rank, boxes, room) {
     for (const box of boxes) {
       if (box.pieces !== undefined) {
-        box.bytes = joinedBytes(await Promise.all(box.pieces.map((it) => this.piece(rank, it))));
+        box.bytes = joinedBytes(await Promise.all(box.pieces.map((it) => this.piece(rank, it, room))));
       }
       if (box.bytes === undefined) {
         const count = Math.max(0, Math.min(box.size, MOST_OF_BOX, room.left));
@@ -90,8 +90,10 @@ class Boxes {
     }
   }
 
-  piece(rank, it) {
-    return it.bytes === undefined ? this.machine.bytes(rank, it.address, it.size) : Promise.resolve(it.bytes.slice(0, it.size));
+  piece(rank, it, room) {
+    const count = Math.max(0, Math.min(it.size, MOST_OF_BOX, room.left));
+    room.left -= count;
+    return it.bytes === undefined ? this.machine.bytes(rank, it.address, count) : Promise.resolve(it.bytes.slice(0, count));
   }
 
   // A registered area: by the variable that it is, or one that points to it, or the label there.

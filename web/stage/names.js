@@ -5,6 +5,8 @@ const MOST_FRAMES = 24;
 const RA = 1;
 const SP = 2;
 const FIRST_FLOAT = 32;
+// More bytes than a number has. Debugging information may give it any size.
+const MOST_OF_NUMBER = 16;
 
 /** A number of DWARF's variable length. @returns {[number, number]} the number, and the place behind it */
 function leb(bytes, at, isSigned) {
@@ -21,7 +23,8 @@ function leb(bytes, at, isSigned) {
 const word = (number) => number >>> 0;
 
 /** A number as the bytes of a register. */
-function bytesOfNumber(number, count) {
+function bytesOfNumber(number, size) {
+  const count = Math.min(size, MOST_OF_NUMBER);
   const bytes = new Uint8Array(count);
   for (let k = 0; k < Math.min(count, 4); k++) {
     bytes[k] = (number >>> (8 * k)) & 255;

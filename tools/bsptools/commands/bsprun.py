@@ -17,8 +17,8 @@ from ..machines import Take
 from ..options import FLAGS, MISTAKES, OUTPUT, Parser
 from ..outputs.library_notes import NO_TEXT, STATUS
 from ..outputs.report import Report
-from ..prepare.given_files import files_read, outputs_of, with_others
-from ..prepare.job import Job, prepared
+from ..prepare.given_files import files_read, given_names, outputs_of, with_others
+from ..prepare.job import OPEN, Job, prepared
 from ..refusals import BY_SIGNAL, REFUSED, UNWRITTEN, Refused, about, counted, put, show, tell
 from ..run.cost_formats import form, wants_counts
 from ..run.found_files import Wanted
@@ -147,10 +147,14 @@ def expect_page_alone(asked: argparse.Namespace) -> None:
 
 
 def write_page(options: argparse.Namespace, folder: pathlib.Path, words: list[str]) -> int:
-    """Writes the page of a program."""
+    """Writes the page of a program. It is not run here, so nobody sees which files it opens."""
+    from ..program import elf
     from ..stage.run_page import write
 
-    write(prepared(options, folder, "bsprun"), options.page, shlex.join(["bsprun", *words]), folder, options.recorded)
+    job = prepared(options, folder, "bsprun")
+    if not given_names(options) and OPEN in elf.names(job.content):
+        tell(["bsprun: the program may open files, and the page has none for it: give those that it reads by --file"])
+    write(job, options.page, shlex.join(["bsprun", *words]), folder, options.recorded)
     return 0
 
 

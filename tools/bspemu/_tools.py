@@ -128,4 +128,7 @@ def several(values: Any) -> List[Any]:
 
 def parted(words: Any) -> List[str]:
     """The words of a list, or of a text as a shell parts it."""
-    return shlex.split(words) if isinstance(words, str) else [str(it) for it in several(words)]
+    try:
+        return shlex.split(words) if isinstance(words, str) else [str(it) for it in several(words)]
+    except ValueError as error:
+        raise BspError(f"{words!r}: {error}") from error

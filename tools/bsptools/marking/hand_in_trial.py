@@ -195,21 +195,24 @@ class Trial:
         if not is_built:
             # Warnings and the files that were included come first, and may be many.
             self.found.said = some_with(ERRORS, said)
-        elif number == 0:
-            # The same of notes, which a text can have the compiler make.
-            self.found.said = some_with(WARNING, [*self.found.said, *said])
+        elif number == 0 or self.plan.warnings:
+            # The same of notes, which a text can have the compiler make. With other constants, the text may have other warnings.
+            self.found.said = some_with(WARNING, [*self.found.said, *(it for it in said if it not in self.found.said)])
             if self.plan.warnings and len(ran.said) >= bounded_run.MOST_SAID:
                 self.found.hides = self.found.hides or f"{hidden_warnings.UNKNOWN}: the compiler prints too much"
         self.found.is_built = is_built and (number == 0 or self.found.is_built)
         return is_built
 
     def find_hidden_warnings(self) -> None:
-        """What hides warnings if it is compiled with the constants of the first run, as those are that count."""
-        words = self.compiler(self.plan.runs[0].defines, self.name, *hidden_warnings.OPTIONS)
-        ran = bounded_run.run(words, COMPILER_SECONDS, hidden_warnings.MOST_TEXT, compiler_environment(self.folder))
-        self.found.hides = hidden_warnings.fault(ran, self.name)
-        said = cut(ran.said.decode(errors="replace").splitlines()) if ran.status else []
-        self.found.lack = SLOW if ran.how == bounded_run.LATE else next(filter(self.is_lack, said), "")
+        """What hides warnings if it is compiled with the constants of each case."""
+        for defines in dict.fromkeys(it.defines for it in self.plan.runs):
+            words = self.compiler(defines, self.name, *hidden_warnings.OPTIONS)
+            ran = bounded_run.run(words, COMPILER_SECONDS, hidden_warnings.MOST_TEXT, compiler_environment(self.folder))
+            self.found.hides = hidden_warnings.fault(ran, self.name)
+            said = cut(ran.said.decode(errors="replace").splitlines()) if ran.status else []
+            self.found.lack = SLOW if ran.how == bounded_run.LATE else next(filter(self.is_lack, said), "")
+            if self.found.hides or self.found.lack:
+                return
 
     def is_lack(self, line: str) -> bool:
         """Whether the compiler says that the host has given it too little."""

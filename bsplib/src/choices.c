@@ -410,7 +410,9 @@ int __wrap_posix_memalign(void **to, size_t alignment, size_t size)
 /* A C library's own may count on memory that sbrk gave, and leave it as it is. */
 void *__wrap_calloc(size_t count, size_t size)
 {
-    void *place = size > 0 && count > (size_t)-1 / size ? NULL : __real_malloc(count * size);
+    void *place;
+    begin_heap();
+    place = size > 0 && count > (size_t)-1 / size ? NULL : __real_malloc(count * size);
     return place == NULL ? NULL : memset(place, 0, count * size);
 }
 

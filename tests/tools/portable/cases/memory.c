@@ -187,6 +187,16 @@ CASE(address_of_the_heap_sent, OTHER)
     say(*theirs);
 }
 
+CASE(address_of_zeros_sent, OTHER)
+{
+    int *mine = calloc(1, sizeof *mine), *theirs;
+    *mine = 7;
+    bsp_send(next, NULL, &mine, sizeof mine); /* ! */
+    bsp_sync();
+    bsp_move(&theirs, sizeof theirs);
+    say(*theirs);
+}
+
 CASE(list_sent_as_it_is, OTHER)
 {
     struct node {

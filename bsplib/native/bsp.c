@@ -16,12 +16,15 @@ static enum { BEFORE, WITHIN, AFTER } part = BEFORE;
 
 /* What is wrong. */
 
+/* A line is one write: other ranks may say something at the same time. */
 static void say(const char *format, va_list arguments)
 {
+    char line[2 * PATH_MAX];
+    size_t used = (size_t)snprintf(line, sizeof line, "bsp: rank %d: ", transport_rank);
     fflush(stdout);
-    fprintf(stderr, "bsp: rank %d: ", transport_rank);
-    vfprintf(stderr, format, arguments);
-    fputc('\n', stderr);
+    vsnprintf(line + used, sizeof line - used - 1, format, arguments);
+    strcat(line, "\n");
+    fwrite(line, 1, strlen(line), stderr);
     fflush(stderr);
 }
 

@@ -346,26 +346,73 @@ void __wrap_bsp_begin(int maxprocs)
     room.low = room.start;
 }
 
-/* Fresh memory. */
+/* Fresh memory. Each call of a function of this kind is a piece, and tools/bsptools/portable/portability_findings.py counts them so. What
+   calloc gives is 0. Others, such as strdup, reallocarray and valloc, call these. */
 extern void *__real_malloc(size_t size);
+extern void *__real_realloc(void *old, size_t size);
+extern void *__real_memalign(size_t alignment, size_t size);
+extern void *__real_aligned_alloc(size_t alignment, size_t size);
+extern int __real_posix_memalign(void **to, size_t alignment, size_t size);
+extern size_t bsp_asked(void *place);
 
-void *__wrap_malloc(size_t size)
+/* Comes before the first memory that is given. */
+static void begin_heap(void)
 {
     static int has_begun = 0;
-    void *place;
     if (bsp_choices.is_moved && !has_begun)
         __real_malloc(moved());
     has_begun = 1;
-    place = __real_malloc(size);
-    if (place != NULL && bsp_choices.heap != 0 && is_chosen(here.pieces++))
-        memset(place, (int)bsp_choices.heap, size);
+}
+
+/* A piece, whose first bytes may be those that it had. */
+static void *fresh(void *place, size_t kept, size_t size)
+{
+    int is_filled = bsp_choices.heap != 0 && is_chosen(here.pieces++);
+    if (is_filled && place != NULL && size > kept)
+        memset((char *)place + kept, (int)bsp_choices.heap, size - kept);
     return place;
+}
+
+void *__wrap_malloc(size_t size)
+{
+    begin_heap();
+    return fresh(__real_malloc(size), 0, size);
+}
+
+void *__wrap_realloc(void *old, size_t size)
+{
+    size_t kept = bsp_asked(old);
+    begin_heap();
+    return fresh(__real_realloc(old, size), kept, size);
+}
+
+void *__wrap_memalign(size_t alignment, size_t size)
+{
+    begin_heap();
+    return fresh(__real_memalign(alignment, size), 0, size);
+}
+
+void *__wrap_aligned_alloc(size_t alignment, size_t size)
+{
+    begin_heap();
+    return fresh(__real_aligned_alloc(alignment, size), 0, size);
+}
+
+int __wrap_posix_memalign(void **to, size_t alignment, size_t size)
+{
+    int status;
+    begin_heap();
+    status = __real_posix_memalign(to, alignment, size);
+    fresh(status == 0 ? *to : NULL, 0, size);
+    return status;
 }
 
 /* A C library's own may count on memory that sbrk gave, and leave it as it is. */
 void *__wrap_calloc(size_t count, size_t size)
 {
-    void *place = size > 0 && count > (size_t)-1 / size ? NULL : __real_malloc(count * size);
+    void *place;
+    begin_heap();
+    place = size > 0 && count > (size_t)-1 / size ? NULL : __real_malloc(count * size);
     return place == NULL ? NULL : memset(place, 0, count * size);
 }
 

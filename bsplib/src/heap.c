@@ -380,6 +380,12 @@ int posix_memalign(void **to, size_t alignment, size_t asked)
     return *to == NULL ? ENOMEM : 0;
 }
 
+/* How many bytes were asked for of a block that is given to realloc, or 0 for none. */
+size_t bsp_asked(void *place)
+{
+    return place == NULL ? 0 : block_of("realloc: ", place)->asked;
+}
+
 size_t malloc_usable_size(void *place)
 {
     return place == NULL ? 0 : at(place, (size_t)-HEAD)->asked;

@@ -44,7 +44,11 @@ WHY_UNBUFFERED = "BSPlib lets bsp_hpput and bsp_hpget read and write at any time
 WHY_EMPTY = "BSPlib leaves open what bsp_move does where no message is left"
 WHY_QUEUE = "BSPlib keeps what bsp_hpmove gives out up to the end of the superstep alone"
 WHY_ADDRESSES = "an address of one rank is none of another: other libraries have each rank's memory elsewhere"
-WHY_HEAP = "C leaves open which bytes malloc's memory has"
+WHY_HEAP = "C leaves open which bytes fresh memory has"
+# The functions of bsplib/src/choices.c by which a program has fresh memory, and which register has how many bytes it asks for.
+PIECES = {
+    "__wrap_malloc": 10, "__wrap_realloc": 11, "__wrap_memalign": 11, "__wrap_aligned_alloc": 11, "__wrap_posix_memalign": 12
+}  # fmt: skip
 WHY_STACK = "C leaves open what a variable of a function has before it is given a value"
 
 
@@ -270,9 +274,10 @@ class Findings:
         chosen = self.trials.first(other.choices, other.is_other)
         superstep, rank, index = chosen.until
         lines = [f"a difference if {described(other.choices)}"]
-        piece = self.entries(self.trials.replays(chosen), chosen.until, "__wrap_malloc")
+        piece = self.entries(self.trials.replays(chosen), chosen.until, *PIECES)
         if piece is not None:
-            size = counted(piece.node.x[10], "byte")
+            register = next(at for name, at in PIECES.items() if self.code.names.get(name) == piece.node.pc)
+            size = counted(piece.node.x[register], "byte")
             lines.append(f"superstep {superstep}, rank {rank}: {size} are taken at {place(self.code, piece.node)}")
         lines += [f"then   {other.difference}", again(chosen)]
         return Finding([*lines, f"why    {WHY_HEAP}"])

@@ -1,6 +1,8 @@
 /* Memory that was given no value, and other things that are C's, and such as look like it. */
 #include "cases.h"
 
+#include <malloc.h>
+
 static int __attribute__((noinline)) unset_sum(const int *values)
 {
     int seen[6], i, sum = 0;
@@ -59,6 +61,53 @@ CASE(grown, FRESH)
     int *place = malloc(8); /* ! */
     place[0] = 1;
     say(place[0] + place[1]);
+}
+
+CASE(grown_where_it_is, FRESH)
+{
+    int *place = malloc(16);
+    place[0] = 1;
+    place = realloc(place, 400); /* ! */
+    say(place[0] + place[50]);
+}
+
+CASE(grown_elsewhere, FRESH)
+{
+    int *place = malloc(16), *behind = malloc(16);
+    behind[0] = place[0] = 1;
+    place = realloc(place, 400); /* ! */
+    say(behind[0] + place[0] + place[50]);
+}
+
+CASE(aligned, FRESH)
+{
+    void *place;
+    if (posix_memalign(&place, 64, 400) == 0) /* ! */
+        say(((int *)place)[0]);
+}
+
+/* What is fresh in memory of each function, of which some call others. */
+CASE(of_each_function, FRESH)
+{
+    int *first = malloc(40); /* ! */
+    int *grown = realloc(malloc(8), 40), *made = realloc(NULL, 40), *array = reallocarray(malloc(8), 10, 4), *page = valloc(40);
+    int *at_64 = aligned_alloc(64, 40), *old = memalign(64, 40), *zeros = calloc(10, 4);
+    void *other;
+    if (posix_memalign(&other, 64, 40) == 0)
+        printf("%x %x %x %x %x %x %x %x %x\n", first[0], grown[2], made[0], array[2], page[0], at_64[0], old[0], zeros[0], ((int *)other)[0]);
+}
+
+CASE(kept_by_realloc, INNOCENT)
+{
+    int *place = malloc(40), *behind;
+    memcpy(place, a, 40);
+    place = realloc(place, 200);
+    behind = malloc(8);
+    place = realloc(place, 1000);
+    place = realloc(place, 44);
+    place[10] = 7;
+    place = realloc(place, 20000);
+    say(weighed(place, 11) + (behind != NULL));
 }
 
 CASE(by_calloc, INNOCENT)
@@ -131,6 +180,16 @@ CASE(address_of_a_local_sent, OTHER)
 CASE(address_of_the_heap_sent, OTHER)
 {
     int *mine = malloc(sizeof *mine), *theirs;
+    *mine = 7;
+    bsp_send(next, NULL, &mine, sizeof mine); /* ! */
+    bsp_sync();
+    bsp_move(&theirs, sizeof theirs);
+    say(*theirs);
+}
+
+CASE(address_of_zeros_sent, OTHER)
+{
+    int *mine = calloc(1, sizeof *mine), *theirs;
     *mine = 7;
     bsp_send(next, NULL, &mine, sizeof mine); /* ! */
     bsp_sync();

@@ -20,17 +20,22 @@ import threading
 import time
 import zlib
 from collections.abc import Callable, Iterator, Sequence
-from typing import Any, NoReturn
+from typing import TYPE_CHECKING, Any, NoReturn
 
 from . import memory_bound, own_folders
 from .files import is_text
 from .refusals import BY_SIGNAL, tell
+
+if TYPE_CHECKING:
+    import concurrent.futures
 
 PR_SET_PDEATHSIG = 1
 # Of a signal that no process has sent.
 SI_KERNEL = 0x80
 # For how many seconds a process may go on that was told to end, and after how many a stopped one looks whether it is to go on.
 PATIENCE, POLL = 1, 0.1
+# For how many seconds threads may go on that were told to end.
+LAST = 10
 # After how many seconds a process at the terminal is looked at.
 LOOK = 0.25
 # After how many seconds a signal is sent again that was lost.
@@ -100,6 +105,20 @@ def _send_again(number: int) -> None:
 def came_last() -> int | None:
     """The signal that raised `Ended` last, if one did. A module of C that is loaded meanwhile may make an ImportError of that."""
     return _came[-1] if _came else None
+
+
+def shut_down(pool: concurrent.futures.ThreadPoolExecutor) -> None:
+    """Waits until the threads of a pool have ended. If a signal ends this process, its exception may have come between taking a lock and noting
+    that, so that a thread waits for the lock for ever. Then this process ends without it; what removes its folders sees that."""
+    number = came_last()
+    if number is None:
+        pool.shutdown()
+        return
+    waiting = threading.Thread(target=pool.shutdown, daemon=True)
+    waiting.start()
+    waiting.join(patience(LAST))
+    if waiting.is_alive():
+        os._exit(BY_SIGNAL + number)
 
 
 @contextlib.contextmanager

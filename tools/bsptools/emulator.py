@@ -143,7 +143,7 @@ class Runs:
             if child.poll() is None:
                 with contextlib.suppress(ProcessLookupError):
                     os.killpg(child.pid, signal.SIGKILL)
-        self._pool.shutdown()
+        children.shut_down(self._pool)
 
     def begin(self, words: list[str] | Callable[[], list[str]]) -> concurrent.futures.Future[subprocess.CompletedProcess[bytes]]:
         """Begins a run once there is a processor for it; its words are asked for then, if it is not these that are given."""

@@ -22,6 +22,8 @@ from ..refusals import Refused
 VALUES = ("pattern", "zero")
 # How many builds there are, and what goes beside them: what loads modules, what waits for a run, and what makes runs of two kinds of builds.
 MOST_BUILDS, MOST_BESIDE = 4, 4
+# How often builds are asked to end.
+MOST_ASKED = 30
 
 
 def options_for(value: str) -> list[str]:
@@ -48,11 +50,14 @@ class Builds:
         self.runs.__exit__()
         # Where something has ended this process, a build that goes on may take long: the library is compiled first, or GCC reads a pipe.
         self.pool.shutdown(wait=False)
-        while left := [it for it in list(self.made.values()) if not it.cancel() and not it.done()]:
+        for _ in range(MOST_ASKED):
+            left = [it for it in list(self.made.values()) if not it.cancel() and not it.done()]
+            if not left:
+                break
             children.tell_running(signal.SIGTERM)
             # A build may have begun meanwhile, which is told next time.
             concurrent.futures.wait(left, children.patience(children.PATIENCE))
-        self.pool.shutdown()
+        children.shut_down(self.pool)
 
     def begin_loading(self, load: Callable[[], None]) -> None:
         """Begins to load what the verdict takes, beside the builds."""

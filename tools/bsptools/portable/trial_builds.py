@@ -50,7 +50,7 @@ class Builds:
         self.runs.__exit__()
         # Where something has ended this process, a build that goes on may take long: the library is compiled first, or GCC reads a pipe.
         self.pool.shutdown(wait=False)
-        for _ in range(MOST_ASKED):
+        for _again in range(MOST_ASKED):
             left = [it for it in list(self.made.values()) if not it.cancel() and not it.done()]
             if not left:
                 break

@@ -164,9 +164,9 @@ class Sweep:
             self.give_place(run)
 
     def give_place(self, run: Run) -> None:
-        """Gives a run its place, unless its program was not compiled, or the place cannot be written."""
+        """Gives a run its place, unless there is no program for it, or the place cannot be written."""
         if run.program.why:
-            self.unplaced.append(f"{run}: the program was not compiled")
+            self.unplaced.append(f"{run}: there is no program for it, as said above")
             return
         try:
             self.places[run] = self.store.place(run)
